@@ -79,7 +79,7 @@ class Chain:
             wrong.append(f"the journal of run {last}: {done.stdout.decode()!r} {done.stderr.decode()!r}")
         names = [self.file(number, kind) for number in range(1, last) for kind in ("setup", "trail")]
         names = {os.path.basename(name) for name in [*names, self.file(last, "setup"), self.file(last, "trail.part")]}
-        others = names.symmetric_difference({*os.listdir(self.folder)} - {"lock"})
+        others = names.symmetric_difference({*os.listdir(self.folder)} - {"lock", "control"})
         return wrong + [f"a file is missing, or left over: {name}" for name in sorted(others)[:9]]
 
     def lines(self):

@@ -1,12 +1,16 @@
 -- How a run of a chain ends, from what its parts say of it.
-use Rattle.std.proofs.Common.{◌≡◌, ◌⊎◌, ℕ, Bool, true, false, List, [], Option, Some, None, ◌∙◌, inl, inr, refl, sym, true≢false}
+use Rattle.std.proofs.Common.{◌≡◌, ◌⊎◌, ℕ, Bool, true, false, List, [], Option, Some, None, ◌∙◌, inl, inr, refl, subst, sym, true≢false}
 use Rattle.bl_chain.specs.Telling.{start_status}
 use Rattle.bl_chain.specs.declared.fault.ChainFault.{ChainFault}
 use Rattle.bl_chain.specs.declared.fault.ChainFault.TheVariants.{NoChain, InUse, Broken, Wrong, OldVersion, NotEnded}
 use Rattle.bl_chain.specs.declared.fault.ChainFault.TheVariants.{OtherSetup, NoSetup, NoRun, OtherDigest, Folder, TooMany, Memory}
 use Rattle.bl_chain_serving.specs.Closing.{IsClosedBy}
-use Rattle.bl_chain_serving.specs.Going.{IfClosed, IsFault, IsStatusOf, IsTrailOf, over_of}
+use Rattle.bl_chain_run.specs.declared.start.AtHand.{AtHand}
+use Rattle.bl_chain_serving.specs.Going.{IfClosed, IfEnd, IfNext, IsFault, IsOrStops, IsStatusOf, IsTrailOf, over_of}
+use Rattle.bl_chain_serving.specs.Telling.{HasSaid, IsChainEnd, TellsAfter}
+use Rattle.bl_chain_serving.specs.declared.once.After.{After}
 use Rattle.bl_disk.specs.File.{File}
+use Rattle.bl_folder.specs.Standing.{Standing}
 use Rattle.bl_hall.specs.Chronicle.{Chronicle}
 use Rattle.bl_serving.specs.Chained.{IsChained}
 use Rattle.bl_setup.specs.Setup.{Setup}
@@ -70,3 +74,24 @@ module _ {D : Type 0} (now : D → File) (setup : Setup) where
     served-fails (Whole closed) None status (inr unserved) whole end = absurd (true≢false unserved.torn)
     served-fails (Left device) hall status is whole (inl zero_is) = absurd (true≢false (sym (whole zero_is)))
     served-fails (Left device) hall status is whole (inr fault) = fault
+
+module _ {D : Type 0} (at : AtHand D) (what : After D) where
+  -- what holds of the next run holds also where it would be the next, and the server stops
+  pub next-of : (P : AtHand D → Type 0) → IsOrStops at what → P at → IfNext what P
+  next-of P (inl is) holds = subst (λ (w : After D). IfNext w P) (sym is) holds
+  next-of P (inr stops) holds = subst (λ (w : After D). IfNext w P) (sym stops.1) holds
+
+  pub no-end : (P : ℕ → Type 0) → IsOrStops at what → IfEnd what P
+  no-end P (inl is) = subst (λ (w : After D). IfEnd w P) (sym is) tt
+  no-end P (inr stops) = subst (λ (w : After D). IfEnd w P) (sym stops.1) tt
+
+  pub said-by : (name : List ℕ) (before after : EndState) → IsOrStops at what → HasSaid before after → TellsAfter name what before after
+  said-by name before after (inl is) said = subst (λ (w : After D). TellsAfter name w before after) (sym is) said
+  said-by name before after (inr stops) said = subst (λ (w : After D). TellsAfter name w before after) (sym stops.1) said
+
+-- the status of a program that served a chain
+pub chain-ends : {D F : Type 0} (now : D → File) (has_failed : D → Bool) (stands : F → Standing → Type 0) (folder : F)
+    (name : List ℕ) (status : ℕ) (before after : EndState) → IsChainEnd now has_failed stands folder name status before after
+    → IsEnd status
+chain-ends now has_failed stands folder name status before after (inl stopped) = inl stopped.0
+chain-ends now has_failed stands folder name status before after (inr fault) = inr fault.0

@@ -6,6 +6,7 @@ use Rattle.bl_chain_serving.specs.declared.once.After.{After}
 use Rattle.bl_chain_serving.specs.declared.once.After.TheVariants as after
 use Rattle.bl_chain_serving.specs.declared.once.Over.{Over}
 use Rattle.bl_chain_serving.specs.declared.once.Over.TheVariants as over
+use Rattle.bl_control.specs.declared.asked.StopAsked.{StopAsked}
 use Rattle.bl_disk.specs.File.{File, seen}
 use Rattle.bl_folder.specs.Standing.{Standing, StandsSo}
 use Rattle.bl_hall.specs.Chronicle.{Chronicle}
@@ -48,13 +49,19 @@ abbrev pub IsStatusOf : {D : Type 0} → Over D → Type 0
 IsStatusOf (over.Closed closed hall) = Unit {0}
 IsStatusOf (over.End status) = IsFault status
 
--- what holds of the next run, where there is one; and of the status, where there is none
+-- what comes after a run is this one, or it would be, and the server stops
+abbrev pub IsOrStops : {D : Type 0} → AtHand D → After D → Type 0
+IsOrStops at what = (what ≡ after.Next at) ⊎ ((asked : StopAsked) × (what ≡ after.Stop asked at))
+
+-- what holds of the next run, where there is one, or would be; and of the status, where there is none
 abbrev pub IfNext : {D : Type 0} → After D → (AtHand D → Type 0) → Type 0
 IfNext (after.Next at) P = P at
+IfNext (after.Stop asked at) P = P at
 IfNext (after.End status) P = Unit {0}
 
 abbrev pub IfEnd : {D : Type 0} → After D → (ℕ → Type 0) → Type 0
 IfEnd (after.Next at) P = Unit {0}
+IfEnd (after.Stop asked at) P = Unit {0}
 IfEnd (after.End status) P = P status
 
 -- A run is closed, and the next one follows it: its trail is whole, under its name, and the next begins anew, with what it
@@ -70,3 +77,12 @@ pub record IsFollowed {D F : Type 0} (now : D → File) (has_failed : D → Bool
   pub number : next.run ≡ at.run + 1
   pub anew : next.resumes ≡ false
   pub ready : IsReady now has_failed next
+
+-- The server has stopped behind a run, as was asked: that is closed and followed by the one that is ready now. Only what was
+-- asked at the control gives a `StopAsked`.
+pub record HasStopped {D F : Type 0} (now : D → File) (has_failed : D → Bool) (stands : F → Standing → Type 0)
+    (folder : F) (next : AtHand D) : Type 0 where
+  pub asked : StopAsked
+  pub before : F
+  pub run : AtHand D
+  pub followed : IsFollowed now has_failed stands before folder run next

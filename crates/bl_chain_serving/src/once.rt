@@ -1,7 +1,7 @@
 //! One run of a chain, and what comes after it.
 ghost use Rattle.std.specs.Prelude.{◌≡◌};
 ghost use Rattle.bl_chain.specs.Telling.{chain_text, start_status as status_of_start};
-ghost use Rattle.bl_chain_serving.specs.Going.{IfClosed, IfEnd, IfNext, IsFault, IsFollowed, IsReady, IsStatusOf, over_of};
+ghost use Rattle.bl_chain_serving.specs.Going.{IfClosed, IfEnd, IfNext, IsFault, IsFollowed, IsOrStops, IsReady, IsStatusOf, over_of};
 ghost use Rattle.bl_chain_serving.specs.Telling.{TellsAfter, TellsOver};
 ghost use Rattle.bl_wire.specs.Watch.{Puts, end_state};
 
@@ -10,12 +10,14 @@ use crate::next::change_over;
 use bl_chain::fault::ChainFault;
 use bl_chain::told::{start_status, tell_chain};
 use bl_chain_run::start::AtHand;
+use bl_control::asked::StopAsked;
+use bl_control_socket::control::SharedControl;
 use bl_disk::device::Device;
 use bl_file::named::FileName;
 use bl_folder::folder::Folder;
 use bl_hall::hall::Hall;
 use bl_record::journal::Closed;
-use bl_serving::chained::{ChainedRun, serve_chained};
+use bl_serving::chained::{ChainPlace, ChainedRun, serve_chained};
 use bl_serving::serve::Hosts;
 use bl_trail_run::recorded::{Recorded, RecordedFile};
 use bl_wire::watched::Watched;
@@ -27,19 +29,23 @@ use std::sync::Wait;
 use std::thread::Threads;
 use std::time::Clock;
 
-/// A chain: its folder, and the name of that.
+/// A chain: its folder, the name of that, and of the log of connections.
 #[derive(Drop)]
 pub struct Chain<'a, F> {
     /// The folder.
     pub folder: F,
     /// Its name.
     pub name: &'a str,
+    /// The name of the log; `None` where none is kept.
+    pub log_name: Option<&'a str>,
 }
 
 /// What comes after a run.
 pub enum After<D> {
     /// The next one.
     Next(AtHand<D>),
+    /// Nothing, since that was asked: the run is closed, and this one would be the next.
+    Stop(StopAsked, AtHand<D>),
     /// Nothing: the program ends with this status.
     End(u8),
 }
@@ -50,13 +56,21 @@ enum Over<D> {
     End(u8),
 }
 
+/// Tells a fault of the chain in this folder, and gives the status of the program.
+pub(crate) fn tell_end<E: Write>(errors: &mut Watched<E>, name: &str, fault: &ChainFault) -> u8
+    ensures status { result ≡ status_of_start fault.now }
+    ensures puts { Puts (chain_text name.now fault.now) (end_state E.contents errors.old) (end_state E.contents errors.new) }
+{
+    tell_chain(errors, name, fault);
+    start_status(fault)
+}
+
 /// What a fault of the chain in this folder comes to: it is told.
 fn end_by<D, E: Write>(errors: &mut Watched<E>, name: &str, fault: &ChainFault) -> After<D>
     ensures end { result ≡ After.End (status_of_start fault.now) }
     ensures puts { Puts (chain_text name.now fault.now) (end_state E.contents errors.old) (end_state E.contents errors.new) }
 {
-    tell_chain(errors, name, fault);
-    After::End(start_status(fault))
+    After::End(tell_end(errors, name, fault))
 }
 
 /// What a run has come to, by its file and its hall. A journal that is not whole is left to the next start.
@@ -79,6 +93,17 @@ fn over_by<D: Device + Drop>(run: ChainedRun<D>) -> Over<D>
     }
 }
 
+/// What comes after a run behind which this one is ready: it, unless it was asked to stop.
+fn after_change<D, T: Wait>(rt: &T, control: &SharedControl, next: AtHand<D>) -> After<D>
+    ensures { IsOrStops next result }
+{
+    let asked = control.lock(rt).stop();
+    match asked {
+        Some(asked) => After::Stop(asked, next),
+        None => After::Next(next),
+    }
+}
+
 /// Serves the run at hand; one that was cut off is closed, and nobody is served in it.
 fn run_it<
     D: Device + FileName + Send + Drop,
@@ -89,7 +114,7 @@ fn run_it<
 >(
     hosts: &Hosts<'_, P, T>,
     at: AtHand<D>,
-    is_first: bool,
+    place: ChainPlace<'_>,
     writer: &mut Watched<W>,
     errors: &mut Watched<E>,
 ) -> Over<D>
@@ -122,10 +147,10 @@ where
             }),
         };
     }
-    over_by(serve_chained(hosts, setup, journal, is_first, writer, errors))
+    over_by(serve_chained(hosts, setup, journal, place, writer, errors))
 }
 
-/// Serves the run at hand, to its end, and begins the next one over what it left.
+/// Serves the run at hand, to its end, and begins the next one over what it left; or stops behind it, where that was asked.
 ///
 /// The program ends where nobody can be served any more, and what happens could not be kept: why is told. Then the
 /// folder is left to the next start, which goes on from all that anybody was told.
@@ -140,7 +165,7 @@ pub fn run_once<
     hosts: &Hosts<'_, P, T>,
     chain: &mut Chain<'_, F>,
     at: AtHand<D>,
-    is_first: bool,
+    place: ChainPlace<'_>,
     writer: &mut Watched<W>,
     errors: &mut Watched<E>,
 ) -> After<D>
@@ -155,10 +180,10 @@ where
     ensures name { chain.new.name ≡ chain.old.name }
 {
     let (alloc, run) = (hosts.run_context.alloc, at.run);
-    match run_it(hosts, at, is_first, writer, errors) {
+    match run_it(hosts, at, place, writer, errors) {
         Over::Closed(closed, hall) => {
             match change_over::<D, F>(alloc, &mut chain.folder, run, closed, hall) {
-                Ok(next) => After::Next(next),
+                Ok(next) => after_change(hosts.run_context.rt, place.control, next),
                 Err(fault) => end_by(errors, chain.name, &fault),
             }
         }

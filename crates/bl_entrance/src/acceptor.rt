@@ -50,6 +50,13 @@ pub enum Taken {
     Lost(Ending),
 }
 
+/// How many connections are open, and how many were taken.
+#[derive(Clone, Copy, Debug, PartialEq, Eq)]
+pub struct ConnectionCounts {
+    pub open: u32,
+    pub taken: u32,
+}
+
 /// That a connection was counted as open no more, and the early end of its session that was told of, if it had one:
 /// `Acceptor::part` alone says so.
 #[derive(Clone, Copy, Debug)]
@@ -329,6 +336,15 @@ impl<'a, F: Write + Drop> Acceptor<'a, F> {
         floor.open = floor.open.saturating_sub(1);
         if let Some(place) = floor.places.get_mut(thread) {
             place.open = place.open.saturating_sub(1);
+        }
+    }
+
+    /// How many connections are open now, and how many were taken.
+    pub fn counts<R: Wait>(&self, rt: &R) -> ConnectionCounts {
+        let floor = self.floor.lock(rt);
+        ConnectionCounts {
+            open: floor.open,
+            taken: floor.taken,
         }
     }
 

@@ -11,3 +11,7 @@ remains_then p q r f g = record { gate = g.gate ∙ f.gate; seen = begins_more r
 -- after a turn and then more
 pub follows_on : (p q r : PassView) → Follows p q → Follows q r → Follows p r
 follows_on p q r f g = follows_then p q r f g
+
+-- a pass that has only seen more remains
+pub remains_of : (p q : PassView) → Follows p q → Remains p q
+remains_of p q f = record { gate = f.gate; seen = f.seen }

@@ -11,7 +11,7 @@ use bl_allowance::allowance::Allowance;
 use bl_allowance::lines::LineStream;
 use bl_connection::stream::Stream;
 use bl_doors::greeted::Greeted;
-use bl_entrance::acceptor::{Accepted, Acceptor, Parted, Taken};
+use bl_entrance::acceptor::{Accepted, Acceptor, ConnectionCounts, Parted, Taken};
 use bl_entrance::callers::{Callers, name_of};
 use bl_entrance::ended::{Ending, Why, ended_words, ending_of};
 use bl_entrance::first::{first_line, name_in};
@@ -492,6 +492,23 @@ impl<'a, K: Keep, T: Wait + Clock> Attendant<'a, K, T> {
         self.rounds.stir_all();
     }
 
+    /// Cuts off all that have not taken their last: they are told of as idle. Who waits for its client's end is closed.
+    fn cut_off<P, F: Write + Drop>(
+        &mut self,
+        context: &ThreadContext<'_, P, K, T>,
+        acceptor: &Acceptor<'_, F>,
+    )
+        ensures { self.new.rounds.first ≡ self.old.rounds.first }
+    {
+        for _ in 0..self.rounds.len() {
+            let Some(gone) = self.rounds.leave_idle(0) else {
+                break;
+            };
+            self.see_off(context, acceptor, gone, true);
+        }
+        self.leavers.cut_off();
+    }
+
     /// Goes round once: who was idle for too long leaves, those that have come are taken up, each goes on that can, and
     /// those that leave are seen off.
     fn go_round<P: Pause, F: Write + Drop>(
@@ -519,6 +536,9 @@ impl<'a, K: Keep, T: Wait + Clock> Attendant<'a, K, T> {
         }
         if acceptor.keeps_nothing() {
             self.see_unkept_off(context, acceptor);
+        }
+        if context.quota.is_cut_off() {
+            self.cut_off(context, acceptor);
         }
     }
 
@@ -628,6 +648,9 @@ pub(crate) trait SessionAcceptor {
 
     /// Says which threads have come, as `Acceptor::have_come` does.
     fn have_come<R: Wait>(&self, rt: &R, alloc: Global, first: usize, behind: usize);
+
+    /// How many connections are open and were taken, as `Acceptor::counts` says.
+    fn counts<R: Wait>(&self, rt: &R) -> ConnectionCounts;
 }
 
 impl<F: Write + Drop> SessionAcceptor for Acceptor<'_, F> {
@@ -643,5 +666,9 @@ impl<F: Write + Drop> SessionAcceptor for Acceptor<'_, F> {
 
     fn have_come<R: Wait>(&self, rt: &R, alloc: Global, first: usize, behind: usize) {
         Acceptor::have_come(self, rt, alloc, first, behind);
+    }
+
+    fn counts<R: Wait>(&self, rt: &R) -> ConnectionCounts {
+        Acceptor::counts(self, rt)
     }
 }

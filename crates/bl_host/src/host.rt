@@ -15,6 +15,7 @@ use crate::upkeep::Upkeep;
 use bl_allowance::allowance::Allowance;
 use bl_asked::options::Options;
 use bl_clock::clock::SharedClock;
+use bl_control_socket::control::SharedControl;
 use bl_entrance::acceptor::{Acceptor, SharedLog};
 use bl_entrance::ended::Ended;
 use bl_entrance::entrance::Entrance;
@@ -30,14 +31,22 @@ use bl_worker::pause::Pause;
 use std::alloc::Global;
 use std::io::Write;
 use std::net::Net;
+use std::rt::Files;
 use std::sync::Wait;
 use std::thread::{self, Scope, Threads};
 use std::time::Clock;
 
+/// What a run has that another one follows: its limit, by which it ends by itself, and the control by which it may be
+/// ended.
+#[derive(Clone, Copy)]
+pub struct Followed<'a> {
+    pub limit: u32,
+    pub control: &'a SharedControl,
+}
+
 /// What sessions are hosted with: the runtime, where memory comes from, the gate, what each turn does between a start
 /// and an end, what keeps all that has happened before a session is told, the log of connections, if there is one, the
-/// lines of the journal's clock, if there is one, and the limit of the run, where another one follows, so that it ends by
-/// itself.
+/// lines of the journal's clock, if there is one, and what a run has that another one follows.
 #[derive(Drop)]
 pub struct HostContext<'a, P, K, T, F: Write + Drop> {
     pub rt: &'a T,
@@ -47,7 +56,7 @@ pub struct HostContext<'a, P, K, T, F: Write + Drop> {
     pub keep: &'a K,
     pub log: Option<&'a SharedLog<F>>,
     pub clock: Option<&'a SharedClock<F>>,
-    pub followed: Option<u32>,
+    pub followed: Option<Followed<'a>>,
 }
 
 /// What is left after all sessions: the pass; those that ended early, in the order in which that was told; whether each
@@ -82,13 +91,14 @@ struct Plan<'s, D> {
 }
 
 /// Starts who has all kept, where others are not to wait for that, the workers and then the session threads, and waits
-/// for them: for the sessions first, whom the others serve. What these tell is told when it happens.
+/// for them: for the sessions first, whom the others serve. What these tell is told when it happens, and what is asked of
+/// the run is done.
 fn run_threads<
     's,
     V,
     P: Pause + Sync,
     K: Keep + Sync,
-    T: Threads + Wait + Clock + Sync,
+    T: Threads + Files + Wait + Clock + Sync,
     D: SessionAcceptor + Sync,
     O: Oversees,
     E: Write,
@@ -120,7 +130,7 @@ fn run_threads<
         && start_workers(scope, context, &mut pass, options.workers, &mut workers)
         && start_sessions(scope, context, &mut pass, watches, acceptor, &mut sessions)
         && all;
-    overseer.oversee(context.rt, sessions.len(), errors);
+    overseer.oversee(context, acceptor, &mut pass, sessions.len(), errors);
     join_threads(context.rt, context.gate, &mut pass, sessions);
     upkeep.end(context.rt, context.keep);
     let closed = context.bell.close(context.rt);
@@ -166,7 +176,7 @@ fn make_watches<R: Net>(rt: &R, alloc: Global, entrance: &Entrance, count: u32) 
 fn run_scope<
     P: Pause + Sync,
     K: Keep + Sync,
-    T: Threads + Wait + Clock + Sync,
+    T: Threads + Files + Wait + Clock + Sync,
     F: Write + Drop,
     D: SessionAcceptor + Sync,
     O: Oversees + Drop,
@@ -196,7 +206,7 @@ fn run_scope<
         plan.options.trail_limit,
         followed.is_some(),
     );
-    let allowance = followed.map(|limit| Allowance::new(limit, 0));
+    let allowance = followed.map(|followed| Allowance::new(followed.limit, 0));
     let quota = &SharedQuota::new(counted, allowance);
     let bell = &Bell::new();
     let alarms = &alarms;
@@ -291,11 +301,13 @@ fn hosted_of(joined: Joined, gathered: Gathered, untold: bool) -> Hosted
 /// The pass has at least 33 parts of the right to close the gate, one for each thread and one that stays, and has as
 /// many again where each thread could be started. Where one could not, no further one is, and those that were started
 /// run to their end. Once nothing more is kept, no further connection is taken, and those that wait for their clients
-/// are over. What happens meanwhile is told on `errors` then; what was not told so is in the result.
+/// are over. Where another run follows, no further connection is taken once the run takes no more lines or connections, or
+/// is to end by its control; each connection is then told what it has asked, and is cut off where it does not take that. What
+/// happens meanwhile is told on `errors` then; what was not told so is in the result.
 pub fn host<
     P: Pause + Sync,
     K: Keep + Sync,
-    T: Threads + Net + Wait + Clock + Sync,
+    T: Threads + Files + Net + Wait + Clock + Sync,
     F: Write + Drop + Send,
     E: Write,
 >(
@@ -337,9 +349,14 @@ pub fn host<
         options,
     };
     let live = Live::new(host_context.alloc, host_context.log, host_context.clock);
-    let overseer = Overseer { told, live };
+    let control = host_context.followed.map(|followed| followed.control);
+    let overseer = Overseer {
+        told,
+        live,
+        control,
+    };
     let (joined, overseer) = run_scope(host_context, plan, alarms, pass, overseer, errors);
-    let Overseer { told, live } = overseer;
+    let Overseer { told, live, .. } = overseer;
     let gathered = gather(host_context.alloc, told.try_iter(host_context.rt));
     hosted_of(
         joined,

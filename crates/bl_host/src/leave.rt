@@ -85,6 +85,11 @@ impl<S: Stream + Drop> Leavers<S> {
         }
     }
 
+    /// Closes all of them.
+    pub(crate) fn cut_off(&mut self) {
+        self.leavers.clear();
+    }
+
     /// Drops what has come at this time, in milliseconds, and closes those that may be.
     pub(crate) fn look(&mut self, time: u64) {
         let mut i = 0;

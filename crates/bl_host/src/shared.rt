@@ -13,6 +13,7 @@ use bl_gate::pass::Pass;
 use bl_quota::asks::Asks;
 use bl_quota::quota::{Fit, Quota};
 use bl_work::work::Work;
+use std::sync::atomic::{AtomicBool, AtomicU64, Ordering};
 use std::sync::{Mutex, Wait};
 
 /// The counts of what a trail may come to: within its limit, and, where another run follows, within a lower one. A line
@@ -95,12 +96,15 @@ impl TrailCounts {
 }
 
 /// The quota of a server: it is locked in a turn at the gate alone, so that nobody waits for it; whether the trail was
-/// found to be full; and what is left of the run for lines, where another one follows.
+/// found to be full; what is left of the run for lines, where another one follows; how much the admitted lines weigh; and
+/// whether who has not taken its last is cut off.
 #[derive(Drop)]
 pub(crate) struct SharedQuota {
     counts: Mutex<TrailCounts>,
     full: FullMark,
     allowance: Option<Allowance>,
+    weight: AtomicU64,
+    cut: AtomicBool,
 }
 
 impl SharedQuota {
@@ -110,7 +114,38 @@ impl SharedQuota {
             counts: Mutex::new(counts),
             full: FullMark::new(),
             allowance,
+            weight: AtomicU64::new(0),
+            cut: AtomicBool::new(false),
         }
+    }
+
+    /// How much the lines weigh that were found to fit.
+    pub(crate) fn weight(&self) -> u64 {
+        self.weight.load(Ordering::SeqCst)
+    }
+
+    /// The run takes no more, where another one follows.
+    pub(crate) fn end_run(&self) {
+        if let Some(allowance) = &self.allowance {
+            allowance.end();
+        }
+    }
+
+    /// Who has not taken its last is cut off from now on.
+    pub(crate) fn cut_off(&self) {
+        self.cut.store(true, Ordering::SeqCst);
+    }
+
+    /// Whether that is so.
+    pub(crate) fn is_cut_off(&self) -> bool {
+        self.cut.load(Ordering::SeqCst)
+    }
+
+    /// Notes that a line with this work was found to fit.
+    fn note_weight(&self, work: &Work) {
+        let _ = self
+            .weight
+            .fetch_add(u64::from(weight_of(work)), Ordering::SeqCst);
     }
 
     /// What is left of the run for lines, where another one follows.
@@ -167,6 +202,9 @@ impl<T: Wait> Asks for AskedQuota<'_, T> {
             if let Some(full) = TrailIsFull::find(&mut counts.quota, core) {
                 self.shared.full.note(full);
             }
+        }
+        if asked.fit == Fit::Now {
+            self.shared.note_weight(work);
         }
         if let Some(allowance) = self.shared.allowance() {
             note_asked(allowance, work, asked);

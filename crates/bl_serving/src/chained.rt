@@ -13,9 +13,11 @@ use crate::close::file_of;
 use crate::noted::note_started;
 use crate::recorded::{BegunRun, HostedRun, begin_run, host_on};
 use crate::serve::Hosts;
+use bl_control_socket::control::SharedControl;
 use bl_disk::device::Device;
 use bl_file::named::FileName;
 use bl_hall::hall::Hall;
+use bl_host::host::Followed;
 use bl_setup::setup::Setup;
 use bl_status::fault::ProgramFault;
 use bl_trail_run::begin::Start;
@@ -37,6 +39,16 @@ pub struct ChainedRun<D> {
     pub recorded: Recorded<D>,
     /// The hall.
     pub hall: Option<Hall>,
+}
+
+/// Where a run stands in a chain: whether it is the first that this program serves, and the control by which it may be
+/// ended.
+#[derive(Clone, Copy)]
+pub struct ChainPlace<'a> {
+    /// Whether it is the first.
+    pub is_first: bool,
+    /// The control.
+    pub control: &'a SharedControl,
 }
 
 /// Of a run in which nobody was served.
@@ -64,7 +76,8 @@ fn announce<W: Write>(writer: &mut Watched<W>, is_first: bool) -> bool
 }
 
 /// A run of a chain over a setup, in a file that has nothing or a torn head: sessions of who comes in at an entrance, as
-/// long as the run takes lines and connections. Then each session is told what it has asked until then, and `bye`.
+/// long as the run takes lines and connections and its control does not end it. Then each session is told what it has asked
+/// until then, and `bye`.
 ///
 /// Of the first run `listening` is told on `writer` once the file has the head of the trail, before anybody is served. The
 /// status is 0 where all was done and the trail is whole, 3 for a fault of the output or of the trail, and 4 when out of
@@ -79,7 +92,7 @@ pub fn serve_chained<
     hosts: &Hosts<'_, P, T>,
     setup: Setup,
     device: D,
-    is_first: bool,
+    place: ChainPlace<'_>,
     writer: &mut Watched<W>,
     errors: &mut Watched<E>,
 ) -> ChainedRun<D>
@@ -88,7 +101,7 @@ where
     D::Synced: Send,
     requires sound { D.has_failed device ≡ false }
     requires fresh { IsTornHead (seen (D.now device)) }
-    ensures run { IsChained (file_in D.name result.recorded.file) setup hosts.now.run.now.limit is_first
+    ensures run { IsChained (file_in D.name result.recorded.file) setup hosts.now.run.now.limit place.entry.is_first
         (left_of D.now result) (used W.contents writer.old writer.new) (end_state E.contents errors.old)
         (end_state E.contents errors.new) }
     ensures whole { result.recorded.status ≡ 0 → is_whole result.recorded.file ≡ true }
@@ -109,11 +122,15 @@ where
         limit,
         ..
     } = begun;
-    if !announce(writer, is_first) {
+    if !announce(writer, place.is_first) {
         drop(made);
         return unserved(end_with(errors, ProgramFault::Write, file_of(journal)));
     }
     note_started(run_context, limit, run.options);
-    let HostedRun { recorded, hall } = host_on(hosts, made, journal, Some(limit), errors);
+    let followed = Followed {
+        limit,
+        control: place.control,
+    };
+    let HostedRun { recorded, hall } = host_on(hosts, made, journal, Some(followed), errors);
     ChainedRun { recorded, hall }
 }

@@ -24,7 +24,7 @@ use bl_file::named::FileName;
 use bl_gate::gate::Gate;
 use bl_gate::pass::Pass;
 use bl_hall::hall::Hall;
-use bl_host::host::{HostContext, Hosted, host};
+use bl_host::host::{Followed, HostContext, Hosted, host};
 use bl_journal_files::told::tell_cut;
 use bl_keeper::desk::Desks;
 use bl_keeper::keeper::Keeper;
@@ -66,7 +66,7 @@ fn host_kept<
     gate: &Gate,
     pass: Pass,
     journal: Journal<D>,
-    followed: Option<u32>,
+    followed: Option<Followed<'_>>,
     errors: &mut Watched<E>,
 ) -> Hosting<D>
 where
@@ -151,7 +151,7 @@ pub(crate) fn host_on<
     hosts: &Hosts<'_, P, T>,
     made: (Gate, Pass),
     journal: Journal<D>,
-    followed: Option<u32>,
+    followed: Option<Followed<'_>>,
     errors: &mut Watched<E>,
 ) -> HostedRun<D>
 where

@@ -1,5 +1,5 @@
 use Rattle.std.proofs.Common.{[], inl, inr, refl, subst, sym}
-use Rattle.bl_chain_serving.proofs.Ends.{start-fails}
+use Rattle.bl_chain_serving.proofs.Ends.{next-of, no-end, said-by, start-fails}
 use Rattle.bl_chain_serving.proofs.Words.{why-behind}
 use Rattle.bl_chain_serving.specs.Telling.{TellsAfter}
 use Rattle.bl_wire.specs.Watch.{end_state}
@@ -12,7 +12,7 @@ use Rattle.bl_setup.specs.Setup.{Setup}
 use Rattle.bl_chain_serving.proofs.once.run_once.Goals as goal
 
 pub returns-in-Ok-clause-follows : goal.returns-in-Ok-clause-follows
-returns-in-Ok-clause-follows g c = record {
+returns-in-Ok-clause-follows g c = next-of c.in-Ok.next c.after_change.result _ c.after_change.ensures (record {
   hall = c.in-Closed.hall;
   file = g.D.Device.now c.in-Closed.closed;
   trail = c.in-Closed.ensures.closed;
@@ -28,7 +28,15 @@ returns-in-Ok-clause-follows g c = record {
     sound = c.in-Ok.ensures.journal.0;
     fresh = λ anew. subst (λ (file : File). IsTornHead (seen file)) (sym c.in-Ok.ensures.journal.1) (inl (head_front, refl));
   };
-}
+})
+
+pub returns-in-Ok-clause-status : goal.returns-in-Ok-clause-status
+returns-in-Ok-clause-status g c = no-end c.in-Ok.next c.after_change.result IsFault c.after_change.ensures
+
+pub returns-in-Ok-clause-told : goal.returns-in-Ok-clause-told
+returns-in-Ok-clause-told g c =
+    said-by c.in-Ok.next c.after_change.result c.args.chain.now.name.now (end_state g.E.Write.contents c.args.errors.now)
+    (end_state g.E.Write.contents c.run_it.new.errors) c.after_change.ensures c.in-Closed.ensures.told
 
 pub returns-in-Err-clause-status : goal.returns-in-Err-clause-status
 returns-in-Err-clause-status g c =

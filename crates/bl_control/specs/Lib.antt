@@ -1,0 +1,4 @@
+pub mod Demands
+pub mod Asking
+pub mod Figures
+pub mod Answers
