@@ -37,7 +37,7 @@ fn told_first(
 }
 
 /// Tells the first fault of a setup file, or that a growth was refused, and gives the status.
-fn tell_first<E: Write>(
+pub fn tell_first<E: Write>(
     alloc: Global,
     name: &[u8],
     bytes: &[u8],
@@ -64,7 +64,7 @@ fn tell_first<E: Write>(
 
 /// What became of the table of a setup.
 #[derive(Clone, Copy)]
-enum Shown {
+pub enum Shown {
     /// It was written whole.
     Whole,
     /// The output failed.

@@ -15,7 +15,7 @@ use std::marker::Model;
 
 /// The texts of a row.
 #[derive(Drop)]
-pub(crate) struct Cells {
+pub struct Cells {
     subject: Vec<u8>,
     document: Vec<u8>,
     level: Vec<u8>,
@@ -34,12 +34,17 @@ impl Model for Cells {
 
 /// How wide the texts of a column stand, but for the last one.
 #[derive(Clone, Copy)]
-pub(crate) struct Widths {
-    pub(crate) subject: usize,
-    pub(crate) document: usize,
-    pub(crate) level: usize,
-    pub(crate) read: usize,
-    pub(crate) append: usize,
+pub struct Widths {
+    /// That of the subjects.
+    pub subject: usize,
+    /// That of the documents.
+    pub document: usize,
+    /// That of the levels.
+    pub level: usize,
+    /// That of the permissions to read.
+    pub read: usize,
+    /// That of the permissions to append.
+    pub append: usize,
 }
 
 /// A text of one's own.
@@ -90,7 +95,7 @@ fn permission_words(
 
 impl Cells {
     /// The texts above the rows.
-    pub(crate) fn heads(alloc: Global) -> Result<Cells, AllocError>
+    pub fn heads(alloc: Global) -> Result<Cells, AllocError>
         ensures { IfOk result (λ cells. cells ≡ head_texts) }
     {
         Ok(Cells {
@@ -104,7 +109,7 @@ impl Cells {
     }
 
     /// The texts of a row.
-    pub(crate) fn of(alloc: Global, setup: &Setup, row: &Row) -> Result<Cells, AllocError>
+    pub fn of(alloc: Global, setup: &Setup, row: &Row) -> Result<Cells, AllocError>
         requires { IsRowOf setup.now row.now }
         ensures { IfOk result (λ cells. cells ≡ row_texts setup.now row.now) }
     {
@@ -127,7 +132,7 @@ impl Cells {
     }
 
     /// How wide they stand.
-    pub(crate) fn widths(&self) -> Widths
+    pub fn widths(&self) -> Widths
         ensures { result ≡ widths_by self.now }
     {
         Widths {
@@ -140,7 +145,7 @@ impl Cells {
     }
 
     /// The line of a row, filled to these widths.
-    pub(crate) fn line(&self, alloc: Global, widths: &Widths) -> Result<Vec<u8>, AllocError>
+    pub fn line(&self, alloc: Global, widths: &Widths) -> Result<Vec<u8>, AllocError>
         ensures { IfOk result (λ text. text.items ≡ row_line widths.now self.now) }
     {
         let mut text = Vec::new(alloc);
@@ -158,7 +163,7 @@ impl Cells {
 
 impl Widths {
     /// The wider ones of these and others.
-    pub(crate) fn wider(&self, other: &Widths) -> Widths
+    pub fn wider(&self, other: &Widths) -> Widths
         ensures { result ≡ wider self.now other.now }
     {
         Widths {

@@ -7,8 +7,8 @@
 //!     table      the whole
 #![tactic(auto)]
 
-mod cells;
-mod overview;
+pub mod cells;
+pub mod overview;
 mod remarks;
 mod stretches;
 pub mod table;

@@ -20,7 +20,7 @@ pub(crate) struct Overview<'a> {
 }
 
 /// The row of a subject and a document, where there is one.
-pub(crate) fn row(setup: &Setup, subject: SubjectId, doc: DocId) -> Option<Row>
+pub fn row(setup: &Setup, subject: SubjectId, doc: DocId) -> Option<Row>
     requires whole { IsWhole setup.now }
     requires known { subject < length setup.now.policy.subjects }
     requires there { doc < length setup.now.policy.documents }
@@ -73,7 +73,7 @@ fn widened_by(
 }
 
 /// How wide each column stands: as wide as the widest of its texts. The texts are made one after the other, and none is kept.
-pub(crate) fn widths_of(alloc: Global, setup: &Setup) -> Result<Widths, AllocError>
+pub fn widths_of(alloc: Global, setup: &Setup) -> Result<Widths, AllocError>
     requires { IsWhole setup.now }
     ensures { IfOk result (λ widths. widths ≡ widths_of setup.now) }
 {

@@ -26,7 +26,7 @@ fn ending(count: usize) -> &'static [u8]
 }
 
 /// So many things, with the word for them.
-fn counted(alloc: Global, count: usize, word: &[u8]) -> Result<Vec<u8>, AllocError>
+pub fn counted(alloc: Global, count: usize, word: &[u8]) -> Result<Vec<u8>, AllocError>
     ensures { IfOk result (λ text. text.items ≡ counted count word.now) }
 {
     let mut digits = Buffer::new();

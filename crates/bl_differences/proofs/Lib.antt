@@ -1,0 +1,5 @@
+pub mod Naming
+pub mod Listing
+pub mod Fits
+pub mod Itself
+pub mod Nothing

@@ -1,0 +1,5 @@
+pub mod Alike
+pub mod Differences
+pub mod Fitting
+pub mod Stretches
+pub mod Permitting
