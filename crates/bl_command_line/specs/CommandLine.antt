@@ -143,8 +143,8 @@ abbrev pub wish_rule : Rule
 wish_rule = record (word_rule (codes "wish")) { action = Some Append }
 
 -- own choice: what a server is asked for is one word
-abbrev pub order_rule : Rule
-order_rule = word_rule (codes "order")
+abbrev pub demand_rule : Rule
+demand_rule = word_rule (codes "demand")
 
 -- own choice: `--within` of `tell` may be left out, and takes a number from 1 to 86,400, the seconds of a day
 abbrev pub within_rule : Rule
@@ -197,7 +197,7 @@ audit_app = app_with (codes "audit") (whole_chain_rule ∷ from_rule ∷ digest_
 
 -- own choice: the command `tell` has a chain and a word for what is asked for, and it may have a number of seconds
 abbrev pub tell_app : App
-tell_app = app_with (codes "tell") (whole_chain_rule ∷ within_rule ∷ order_rule ∷ [])
+tell_app = app_with (codes "tell") (whole_chain_rule ∷ within_rule ∷ demand_rule ∷ [])
 
 -- a parser of this command, and with no option that holds for the commands below it
 pub record IsLocal (app : App) (parser : Command) : Type 0 where

@@ -7,7 +7,7 @@ ghost use Rattle.bl_command_line.specs.CommandLine.{flag_rule, from_rule, idle_r
 ghost use Rattle.bl_command_line.specs.CommandLine.{limit_rule, log_rule, number_rule, open_rule};
 ghost use Rattle.bl_command_line.specs.CommandLine.{optional_setup_rule, optional_trail_rule, port_rule, replace_rule, resume_rule, run_rule};
 ghost use Rattle.bl_command_line.specs.CommandLine.{sessions_rule, setup_rule, subject_rule, text_rule, threads_rule};
-ghost use Rattle.bl_command_line.specs.CommandLine.{order_rule, within_rule};
+ghost use Rattle.bl_command_line.specs.CommandLine.{demand_rule, within_rule};
 ghost use Rattle.bl_command_line.specs.CommandLine.{trail_limit_rule, trail_rule, wish_rule, word_rule, workers_rule};
 
 use crate::bounds::{
@@ -394,12 +394,12 @@ pub(crate) fn wish_words<'a>(alloc: Global) -> Arg<'a>
     .action(ArgAction::Append)
 }
 
-pub(crate) fn order_word<'a>(alloc: Global) -> Arg<'a>
-    ensures { rule_of result ≡ order_rule }
+pub(crate) fn demand_word<'a>(alloc: Global) -> Arg<'a>
+    ensures { rule_of result ≡ demand_rule }
 {
     word(
         alloc,
-        "order",
+        "demand",
         "WORD",
         "stop: it ends once the run is closed; change: the next run begins now; figures: what it tells of itself",
     )

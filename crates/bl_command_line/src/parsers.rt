@@ -6,10 +6,10 @@ ghost use Rattle.bl_command_line.specs.CommandLine.{replay_app, serve_app, serve
 
 use crate::options::{
     against_option, at_option, carried_option, chain_option, claim_option, clients_option,
-    digest_option, doors_option, event_option, from_option, idle_option, keep_option, limit_option,
-    log_option, open_option, optional_setup_option, optional_trail_option, order_word, port_option,
-    replace_option, resume_option, run_option, sessions_option, setup_option, subject_word,
-    threads_option, trail_limit_option, trail_option, whole_chain_option, wish_words,
+    demand_word, digest_option, doors_option, event_option, from_option, idle_option, keep_option,
+    limit_option, log_option, open_option, optional_setup_option, optional_trail_option,
+    port_option, replace_option, resume_option, run_option, sessions_option, setup_option,
+    subject_word, threads_option, trail_limit_option, trail_option, whole_chain_option, wish_words,
     within_option, workers_option,
 };
 use bl_asked::version::VERSION;
@@ -188,7 +188,7 @@ fn tell_parser<'a>(alloc: Global) -> Result<Parser<'a>, AllocError>
     let options = vec![in alloc;
         whole_chain_option(alloc),
         within_option(alloc),
-        order_word(alloc),
+        demand_word(alloc),
     ]?;
     Parser::new(alloc, "tell")
         .about("Speaks to the server that works in a chain's folder")

@@ -3,14 +3,14 @@ use Rattle.std.specs.Prelude.{◌≡◌, ◌⊎◌, ◌≤◌, ℕ, List, Some, 
 use Rattle.clap.specs.Matches.{found_of, first_value}
 use Rattle.clap.specs.declared.parser.matches.ArgMatches.{ArgMatches}
 use Rattle.bl_options.specs.Said.{HasNumber}
-use Rattle.bl_options.specs.declared.telling.NamedWish.{NamedWish}
-use Rattle.bl_options.specs.declared.telling.NamedWish.TheVariants.{Stop, Change, Figures}
+use Rattle.bl_options.specs.declared.telling.NamedDemand.{NamedDemand}
+use Rattle.bl_options.specs.declared.telling.NamedDemand.TheVariants.{Stop, Change, Figures}
 
 -- own choice: the word for what a server is asked for
-abbrev pub wish_word : NamedWish → List ℕ
-wish_word (Stop within) = codes "stop"
-wish_word Change = codes "change"
-wish_word Figures = codes "figures"
+abbrev pub demand_word : NamedDemand → List ℕ
+demand_word (Stop within) = codes "stop"
+demand_word Change = codes "change"
+demand_word Figures = codes "figures"
 
 -- own choice: the options say so many seconds; 10 where they say none
 abbrev pub HasWithin : ArgMatches → ℕ → Type 0
@@ -18,17 +18,17 @@ HasWithin options within = ((first_value (found_of options) (codes "within") ≡
     ⊎ HasNumber options (codes "within") within
 
 -- own choice: seconds are said of a stop alone
-abbrev pub HasSeconds : ArgMatches → NamedWish → Type 0
+abbrev pub HasSeconds : ArgMatches → NamedDemand → Type 0
 HasSeconds options (Stop within) = HasWithin options within
 HasSeconds options Change = first_value (found_of options) (codes "within") ≡ None
 HasSeconds options Figures = first_value (found_of options) (codes "within") ≡ None
 
 -- the word and the options of `tell` ask for this
-abbrev pub HasWish : ArgMatches → NamedWish → Type 0
-HasWish options wish = (first_value (found_of options) (codes "order") ≡ Some (wish_word wish)) × HasSeconds options wish
+abbrev pub HasDemand : ArgMatches → NamedDemand → Type 0
+HasDemand options demand = (first_value (found_of options) (codes "demand") ≡ Some (demand_word demand)) × HasSeconds options demand
 
 -- own choice: the seconds are at most those of a day
-abbrev pub IsWishInRange : NamedWish → Type 0
-IsWishInRange (Stop within) = (1 ≤ within) × (within ≤ 86400)
-IsWishInRange Change = Unit {0}
-IsWishInRange Figures = Unit {0}
+abbrev pub IsDemandInRange : NamedDemand → Type 0
+IsDemandInRange (Stop within) = (1 ≤ within) × (within ≤ 86400)
+IsDemandInRange Change = Unit {0}
+IsDemandInRange Figures = Unit {0}

@@ -1,7 +1,7 @@
 //! What the options of `tell` say that a server is asked for.
 ghost use Rattle.std.specs.Prelude.{◌≡◌, ◌≤◌, ℕ, IfNone, IfSome};
-ghost use Rattle.bl_options.specs.Telling.{HasWish, HasWithin, IsWishInRange};
-ghost use Rattle.bl_options.specs.declared.telling.NamedWish.{NamedWish as AnyWish};
+ghost use Rattle.bl_options.specs.Telling.{HasDemand, HasWithin, IsDemandInRange};
+ghost use Rattle.bl_options.specs.declared.telling.NamedDemand.{NamedDemand as AnyDemand};
 
 use crate::number::number;
 use bl_command_line::bounds::MOST_WITHIN;
@@ -9,7 +9,7 @@ use clap::ArgMatches;
 
 /// What a server is asked for.
 #[derive(Clone, Copy, Debug, PartialEq, Eq)]
-pub enum NamedWish {
+pub enum NamedDemand {
     /// That it ends once the run at hand is closed.
     Stop {
         /// After so many seconds, 1 to 86,400, who has not taken its last is cut off.
@@ -38,22 +38,22 @@ fn within_of(options: &ArgMatches<'_>) -> Option<u32>
 
 /// What the options and the word say that a server is asked for; `None` where the word asks for nothing, or a number of
 /// seconds is out of its range, or is said of anything but a stop.
-pub fn wish_of(options: &ArgMatches<'_>) -> Option<NamedWish>
-    ensures range { IfSome result IsWishInRange }
-    ensures written { IfSome result (HasWish options.now) }
-    ensures none { IfNone result ((wish : AnyWish) → HasWish options.now wish → IsWishInRange wish → ⊥) }
+pub fn demand_of(options: &ArgMatches<'_>) -> Option<NamedDemand>
+    ensures range { IfSome result IsDemandInRange }
+    ensures written { IfSome result (HasDemand options.now) }
+    ensures none { IfNone result ((demand : AnyDemand) → HasDemand options.now demand → IsDemandInRange demand → ⊥) }
 {
-    let wish = match options.get_str("order")? {
+    let demand = match options.get_str("demand")? {
         "stop" => {
             let within = within_of(options)?;
-            return Some(NamedWish::Stop { within });
+            return Some(NamedDemand::Stop { within });
         }
-        "change" => NamedWish::Change,
-        "figures" => NamedWish::Figures,
+        "change" => NamedDemand::Change,
+        "figures" => NamedDemand::Figures,
         _ => return None,
     };
     if options.get_str("within").is_some() {
         return None;
     }
-    Some(wish)
+    Some(demand)
 }

@@ -25,9 +25,9 @@ use Rattle.bl_asked.specs.declared.trail.TrailFile.{TrailFile}
 use Rattle.bl_command_line.specs.CommandLine.{server_app}
 use Rattle.bl_options.proofs.Given.{given_not_left_out, none_weaker, some_same, words_differ}
 use Rattle.bl_options.specs.Ranges.{AreFilesInRange, IsAtInRange, IsChainHostingInRange, IsHostingInRange, MayKeep}
-use Rattle.bl_options.specs.Telling.{HasWish, HasWithin}
-use Rattle.bl_options.specs.declared.telling.NamedWish.{NamedWish}
-use Rattle.bl_options.specs.declared.telling.NamedWish.TheVariants.{Stop, Change, Figures}
+use Rattle.bl_options.specs.Telling.{HasDemand, HasWithin}
+use Rattle.bl_options.specs.declared.telling.NamedDemand.{NamedDemand}
+use Rattle.bl_options.specs.declared.telling.NamedDemand.TheVariants.{Stop, Change, Figures}
 use Rattle.bl_options.specs.Said.{HasChainHosting, HasCount, HasEntrance, HasFiles, HasFlag, HasHosting, HasKeeping, HasNoRun, HasNumber, HasNumberOr, HasResume, HasRun, HasSetup, HasStart, HasSyncing, HasTrail, IsSaid, LeavesAllToChain, keeping_word}
 use Rattle.bl_words.specs.Words.{HasAsking, HasNoCommand, HasNoEvent, HasOptions, IsInRange, IsOf, NamesNoTrail, entered_by, faults_of, all_values, word_of}
 use Rattle.bl_options.specs.declared.reading.ChainRun.{ChainRun}
@@ -172,10 +172,10 @@ module _ (a b : ArgMatches) (same : rows_of (found_of a) ≡ rows_of (found_of b
   within_same within (inl has) = inl (first_same (codes "within") ∙ has.0, has.1)
   within_same within (inr has) = inr (number_same (codes "within") within has)
 
-  wish_same : (wish : NamedWish) → HasWish a wish → HasWish b wish
-  wish_same (Stop within) has = (first_same (codes "order") ∙ has.0, within_same within has.1)
-  wish_same Change has = (first_same (codes "order") ∙ has.0, first_same (codes "within") ∙ has.1)
-  wish_same Figures has = (first_same (codes "order") ∙ has.0, first_same (codes "within") ∙ has.1)
+  demand_same : (demand : NamedDemand) → HasDemand a demand → HasDemand b demand
+  demand_same (Stop within) has = (first_same (codes "demand") ∙ has.0, within_same within has.1)
+  demand_same Change has = (first_same (codes "demand") ∙ has.0, first_same (codes "within") ∙ has.1)
+  demand_same Figures has = (first_same (codes "demand") ∙ has.0, first_same (codes "within") ∙ has.1)
 
   asking_same : (asking : Asking) → HasAsking a asking → HasAsking b asking
   asking_same asking has = record {
@@ -251,7 +251,7 @@ module _ (a b : ArgMatches) (same : rows_of (found_of a) ≡ rows_of (found_of b
     (first_same (codes "carried") ∙ has.2.0, first_same (codes "at") ∙ has.2.1, first_same (codes "subject") ∙ has.2.2),
   )
   options_same (Audit folder start) has = (first_same (codes "chain") ∙ has.0, start_same start has.1)
-  options_same (Tell folder wish) has = (first_same (codes "chain") ∙ has.0, wish_same wish has.1)
+  options_same (Tell folder demand) has = (first_same (codes "chain") ∙ has.0, demand_same demand has.1)
 
 -- `state` and `serve`, and `audit` and `alone`, differ in their second letters
 later_differ : (a b c d : ℕ) (as' bs : List ℕ) → (c ≡ d → ⊥) → a ∷ c ∷ as' ≡ b ∷ d ∷ bs → ⊥
@@ -273,7 +273,7 @@ module _ (options : ArgMatches) where
   only_alone none' (ExplainTrail files at asking) is range = words_differ 101 97 _ _ (λ e. omega arith) is.word_is
   only_alone none' (ExplainEvent files event) is range = words_differ 101 97 _ _ (λ e. omega arith) is.word_is
   only_alone none' (Audit folder start) is range = later_differ 97 97 117 108 _ _ (λ e. omega arith) is.word_is
-  only_alone none' (Tell folder wish) is range = words_differ 116 97 _ _ (λ e. omega arith) is.word_is
+  only_alone none' (Tell folder demand) is range = words_differ 116 97 _ _ (λ e. omega arith) is.word_is
 
   -- the word `serve` has two, of one run and of a chain
   only_serve : ((setup : Bor (List ℕ)) (hosting : Hosting) → HasOptions options (Serve setup hosting) → IsHostingInRange hosting → ⊥)
@@ -290,7 +290,7 @@ module _ (options : ArgMatches) where
   only_serve none' unchained (ExplainTrail files at asking) is range = words_differ 101 115 _ _ (λ e. omega arith) is.word_is
   only_serve none' unchained (ExplainEvent files event) is range = words_differ 101 115 _ _ (λ e. omega arith) is.word_is
   only_serve none' unchained (Audit folder start) is range = words_differ 97 115 _ _ (λ e. omega arith) is.word_is
-  only_serve none' unchained (Tell folder wish) is range = words_differ 116 115 _ _ (λ e. omega arith) is.word_is
+  only_serve none' unchained (Tell folder demand) is range = words_differ 116 115 _ _ (λ e. omega arith) is.word_is
 
   -- the word `explain` has three, over a setup, where a trail leads, and of an event
   pub only_explain : ((setup : Bor (List ℕ)) (asking : Asking) → HasOptions options (Explain setup asking) → ⊥)
@@ -308,7 +308,7 @@ module _ (options : ArgMatches) where
   only_explain none' no_trail no_event (ExplainTrail files at asking) is range = no_trail files at asking is.has range
   only_explain none' no_trail no_event (ExplainEvent files event) is range = no_event files event is.has range
   only_explain none' no_trail no_event (Audit folder start) is range = words_differ 97 101 _ _ (λ e. omega arith) is.word_is
-  only_explain none' no_trail no_event (Tell folder wish) is range = words_differ 116 101 _ _ (λ e. omega arith) is.word_is
+  only_explain none' no_trail no_event (Tell folder demand) is range = words_differ 116 101 _ _ (λ e. omega arith) is.word_is
 
   -- an option without a text has no number
   pub unnumbered : (id : List ℕ) (n : ℕ) → None ≡ first_value (found_of options) id → HasNumber options id n → ⊥

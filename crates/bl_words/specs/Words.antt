@@ -14,7 +14,7 @@ use Rattle.bl_command_line.specs.CommandLine.{server_app}
 use Rattle.bl_options.specs.Ranges.{AreFilesInRange, IsAtInRange, IsChainHostingInRange, IsHostingInRange, IsSetupInRange, IsStartInRange, MayKeep}
 use Rattle.bl_options.specs.Said.{HasChainHosting, HasCount, HasFiles, HasFlag, HasHosting, HasKeeping, HasNoRun, HasNumber}
 use Rattle.bl_options.specs.Said.{HasResume, HasSetup, HasStart, HasTrail, IsSaid}
-use Rattle.bl_options.specs.Telling.{HasWish, IsWishInRange}
+use Rattle.bl_options.specs.Telling.{HasDemand, IsDemandInRange}
 use Rattle.bl_options.specs.declared.reading.NamedFiles.{NamedFiles}
 use Rattle.bl_options.specs.declared.reading.NamedFiles.TheVariants as trails
 use Rattle.bl_options.specs.declared.reading.NamedFiles.TheVariants.{Files}
@@ -39,7 +39,7 @@ IsInRange (Explain setup asking) = Unit {0}
 IsInRange (ExplainTrail files at asking) = AreFilesInRange files × IsAtInRange at
 IsInRange (ExplainEvent files event) = AreFilesInRange files × ((1 ≤ event) × (event ≤ 4294967295))
 IsInRange (Audit folder start) = IsStartInRange start
-IsInRange (Tell folder wish) = IsWishInRange wish
+IsInRange (Tell folder demand) = IsDemandInRange demand
 
 -- the names of the setup file and of the trail file; the files of a run of a chain are named by its folder
 abbrev pub setup_file_of : NamedFiles → Option (List ℕ)
@@ -67,7 +67,7 @@ setup_of (Explain setup asking) = Some setup.now
 setup_of (ExplainTrail files at asking) = setup_file_of files
 setup_of (ExplainEvent files event) = setup_file_of files
 setup_of (Audit folder start) = None
-setup_of (Tell folder wish) = None
+setup_of (Tell folder demand) = None
 
 -- the name of the trail file that a command reads; the trail of a run of a chain is named by its folder
 abbrev pub read_trail_of : Command → Option (List ℕ)
@@ -82,7 +82,7 @@ read_trail_of (Explain setup asking) = None
 read_trail_of (ExplainTrail files at asking) = trail_file_of files
 read_trail_of (ExplainEvent files event) = trail_file_of files
 read_trail_of (Audit folder start) = None
-read_trail_of (Tell folder wish) = None
+read_trail_of (Tell folder demand) = None
 
 -- the word for a command
 abbrev pub word_of : Command → List ℕ
@@ -97,7 +97,7 @@ word_of (Explain setup asking) = codes "explain"
 word_of (ExplainTrail files at asking) = codes "explain"
 word_of (ExplainEvent files event) = codes "explain"
 word_of (Audit folder start) = codes "audit"
-word_of (Tell folder wish) = codes "tell"
+word_of (Tell folder demand) = codes "tell"
 
 -- all texts of the option or word of this name, where it was given
 abbrev pub all_values : Found → List ℕ → Option (List (List ℕ))
@@ -151,8 +151,8 @@ HasOptions options (ExplainEvent files event) =
     HasFiles options files × HasNumber options (codes "event") event × AsksNothingElse options
 HasOptions options (Audit folder start) =
     (first_value (found_of options) (codes "chain") ≡ Some folder.now) × HasStart options start
-HasOptions options (Tell folder wish) =
-    (first_value (found_of options) (codes "chain") ≡ Some folder.now) × HasWish options wish
+HasOptions options (Tell folder demand) =
+    (first_value (found_of options) (codes "chain") ≡ Some folder.now) × HasDemand options demand
 
 -- the command has this word and these options
 pub record IsOfOptions (word : List ℕ) (options : ArgMatches) (command : Command) : Type 0 where

@@ -20,7 +20,7 @@ use bl_options::moment::at_of;
 use bl_options::number::{is_said, number};
 use bl_options::reading::{NamedFiles, NamedSetup, files_of, names_no_run, setup_of};
 use bl_options::start::{AuditStart, start_of};
-use bl_options::telling::{NamedWish, wish_of as wished_of};
+use bl_options::telling::{NamedDemand, demand_of};
 use bl_options::trail::{TrailKeeping, keeping_of, may_keep, resumes, trail_of};
 use clap::error::ErrorKind;
 use clap::{ArgMatches, Error};
@@ -194,7 +194,7 @@ pub enum Command<'a> {
         /// The name of the chain's folder.
         folder: &'a str,
         /// What it is asked for.
-        wish: NamedWish,
+        demand: NamedDemand,
     },
 }
 
@@ -420,8 +420,8 @@ fn tell_of<'a>(options: &ArgMatches<'a>) -> Option<Command<'a>>
     ensures none { IfNone result (HasNoCommand (codes "tell") options.now) }
 {
     let folder = options.get_str("chain")?;
-    let wish = wished_of(options)?;
-    Some(Command::Tell { folder, wish })
+    let demand = demand_of(options)?;
+    Some(Command::Tell { folder, demand })
 }
 
 /// The command that the matches name, where they are matches of `parser`. An error comes only where a growth is refused.

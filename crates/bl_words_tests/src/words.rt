@@ -3,7 +3,7 @@ use bl_asked::options::Options;
 use bl_asked::trail::TrailFile;
 use bl_options::hosting::{ChainHosting, Hosting, NamedEntrance};
 use bl_options::reading::{ChainRun, NamedFiles, NamedSetup};
-use bl_options::telling::NamedWish;
+use bl_options::telling::NamedDemand;
 use bl_options::trail::TrailKeeping;
 use bl_words::command::{Command, read_words, status_of};
 use std::alloc::Global;
@@ -883,10 +883,10 @@ fn reads_check_against_another_setup(rt: HostRuntime) -> Result<(), Fail> {
 }
 
 /// What these words ask of the server of the chain in `day`.
-fn asked_by(alloc: Global, text: &str) -> Result<Option<NamedWish>, Fail> {
+fn asked_by(alloc: Global, text: &str) -> Result<Option<NamedDemand>, Fail> {
     let given = words(alloc, text)?;
     Ok(match read_words(alloc, given.as_slice()) {
-        Ok(Command::Tell { folder, wish }) if folder == "day" => Some(wish),
+        Ok(Command::Tell { folder, demand }) if folder == "day" => Some(demand),
         Ok(_) | Err(_) => None,
     })
 }
@@ -895,11 +895,11 @@ fn asked_by(alloc: Global, text: &str) -> Result<Option<NamedWish>, Fail> {
 fn reads_tell(rt: HostRuntime) -> Result<(), Fail> {
     let alloc = rt.alloc();
     for (more, wanted) in [
-        ("stop", NamedWish::Stop { within: 10 }),
-        ("stop --within 1", NamedWish::Stop { within: 1 }),
-        ("--within 86400 stop", NamedWish::Stop { within: 86_400 }),
-        ("change", NamedWish::Change),
-        ("figures", NamedWish::Figures),
+        ("stop", NamedDemand::Stop { within: 10 }),
+        ("stop --within 1", NamedDemand::Stop { within: 1 }),
+        ("--within 86400 stop", NamedDemand::Stop { within: 86_400 }),
+        ("change", NamedDemand::Change),
+        ("figures", NamedDemand::Figures),
     ] {
         let text = format!(in alloc; "bl_server tell --chain day {more}")?;
         assert_eq!(rt; asked_by(alloc, text.as_str())?, Some(wanted), "at {more}");
