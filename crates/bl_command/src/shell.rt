@@ -19,10 +19,13 @@ use bl_explaining_trail::question::TrailQuestion;
 use bl_file::lock::Lock;
 use bl_keep::rest::hand_on_rest;
 use bl_options::hosting::{ChainHosting, Hosting};
+use bl_options::reading::{NamedFiles, NamedSetup};
 use bl_options::start::AuditStart;
 use bl_question::question::Question;
 use bl_readonly::chain::run_audit;
-use bl_readonly::files::read_files;
+use bl_readonly::files::{
+    files_path_in, files_place, read_files, read_setup, setup_path_in, setup_place, wanted,
+};
 use bl_readonly::run::{
     AskedReplay, run_check, run_explain, run_explain_event, run_explain_trail, run_replay,
     run_state,
@@ -196,10 +199,12 @@ where
 /// A run of the command `replay`. The result is the status of the run.
 fn replay_asked<R: AllocGlobal + OpensFiles + Print, E: Write>(
     rt: &R,
-    setup: &str,
-    asked: AskedReplay<'_>,
+    named: NamedFiles<'_>,
+    opens: bool,
     errors: &mut Watched<E>,
 ) -> u8
+where
+    R::File: Lock,
     requires { errors.old.failed ≡ false }
     ensures { IsStatus result }
 {
@@ -207,7 +212,9 @@ fn replay_asked<R: AllocGlobal + OpensFiles + Print, E: Write>(
         return tell(errors, &ProgramFault::NoMemory);
     };
     let mut writer = Watched::new(writer);
-    let files = read_files(rt, setup, asked.trail);
+    let files = read_files(rt, named, wanted(opens));
+    let place = files_place(named);
+    let asked = AskedReplay { place, opens };
     let status = run_replay(rt.alloc(), files, asked, &mut writer, errors);
     let _ = hand_on_rest(writer);
     status
@@ -216,18 +223,20 @@ fn replay_asked<R: AllocGlobal + OpensFiles + Print, E: Write>(
 /// A run of the command `state`. The result is the status of the run.
 fn state_asked<R: AllocGlobal + OpensFiles + Print, E: Write>(
     rt: &R,
-    setup: &str,
-    trail: &str,
+    named: NamedFiles<'_>,
     errors: &mut Watched<E>,
 ) -> u8
+where
+    R::File: Lock,
     ensures { IsStatus result }
 {
     let Ok(writer) = BufWriter::new(rt.alloc(), io::writer(rt)) else {
         return tell(errors, &ProgramFault::NoMemory);
     };
     let mut writer = Watched::new(writer);
-    let files = read_files(rt, setup, trail);
-    let status = run_state(rt.alloc(), files, trail, &mut writer, errors);
+    let files = read_files(rt, named, wanted(false));
+    let place = files_place(named);
+    let status = run_state(rt.alloc(), files, place, &mut writer, errors);
     let _ = hand_on_rest(writer);
     status
 }
@@ -235,22 +244,41 @@ fn state_asked<R: AllocGlobal + OpensFiles + Print, E: Write>(
 /// A run of the command `check`. The result is the status of the run.
 fn check_asked<R: AllocGlobal + OpensFiles + Print, E: Write>(
     rt: &R,
-    name: &str,
+    named: NamedSetup<'_>,
     errors: &mut Watched<E>,
 ) -> u8
+where
+    R::File: Lock,
     ensures { IsStatus result }
 {
     let Ok(writer) = BufWriter::new(rt.alloc(), io::writer(rt)) else {
         return tell(errors, &ProgramFault::NoMemory);
     };
     let mut writer = Watched::new(writer);
-    let setup = read_setup_file(rt, name);
-    let status = run_check(rt.alloc(), setup, name, &mut writer, errors);
+    let Ok(path) = setup_path_in(rt.alloc(), named) else {
+        return tell(errors, &ProgramFault::NoMemory);
+    };
+    let setup = read_setup(rt, named);
+    let place = setup_place(named);
+    let status = run_check(rt.alloc(), setup, path.as_str(), place, &mut writer, errors);
     let _ = hand_on_rest(writer);
     status
 }
 
-/// A run of the command `explain`. The result is the status of the run.
+/// What `explain` is asked, over the setup of this path.
+fn question_of<'a>(path: &'a str, asking: &'a Asking<'a>) -> Question<'a>
+    ensures path { result.path.now ≡ path.entry.now }
+    ensures subject { result.subject.now ≡ asking.entry.now.subject.now }
+{
+    Question {
+        path,
+        carried: asking.carried,
+        subject: asking.subject,
+        wish: asking.wish.as_slice(),
+    }
+}
+
+/// A run of the command `explain` over a setup file. The result is the status of the run.
 fn explain_asked<'a, R: AllocGlobal + OpensFiles + Print, E: Write>(
     rt: &R,
     setup: &'a str,
@@ -263,24 +291,39 @@ fn explain_asked<'a, R: AllocGlobal + OpensFiles + Print, E: Write>(
         return tell(errors, &ProgramFault::NoMemory);
     };
     let mut writer = Watched::new(writer);
-    let question = Question {
-        path: setup,
-        carried: asking.carried,
-        subject: asking.subject,
-        wish: asking.wish.as_slice(),
+    let question = question_of(setup, asking);
+    let setup = read_setup_file(rt, setup);
+    let status = run_explain(rt.alloc(), setup, &question, &mut writer, errors);
+    let _ = hand_on_rest(writer);
+    status
+}
+
+/// A run of the command `explain` over a trail. The result is the status of the run.
+fn explain_trail_asked<R: AllocGlobal + OpensFiles + Print, E: Write>(
+    rt: &R,
+    named: NamedFiles<'_>,
+    at: Option<u32>,
+    asking: &Asking<'_>,
+    errors: &mut Watched<E>,
+) -> u8
+where
+    R::File: Lock,
+    ensures { IsStatus result }
+{
+    let Ok(writer) = BufWriter::new(rt.alloc(), io::writer(rt)) else {
+        return tell(errors, &ProgramFault::NoMemory);
     };
-    let status = match asking.trail {
-        None => {
-            let setup = read_setup_file(rt, setup);
-            run_explain(rt.alloc(), setup, &question, &mut writer, errors)
-        }
-        Some(trail) => {
-            let files = read_files(rt, setup, trail);
-            let at = asking.at.map(u64::from);
-            let asked = TrailQuestion { question, at };
-            run_explain_trail(rt.alloc(), files, trail, &asked, &mut writer, errors)
-        }
+    let mut writer = Watched::new(writer);
+    let Ok(path) = files_path_in(rt.alloc(), named) else {
+        return tell(errors, &ProgramFault::NoMemory);
     };
+    let asked = TrailQuestion {
+        question: question_of(path.as_str(), asking),
+        at: at.map(u64::from),
+    };
+    let files = read_files(rt, named, wanted(at.is_some()));
+    let place = files_place(named);
+    let status = run_explain_trail(rt.alloc(), files, place, &asked, &mut writer, errors);
     let _ = hand_on_rest(writer);
     status
 }
@@ -288,18 +331,28 @@ fn explain_asked<'a, R: AllocGlobal + OpensFiles + Print, E: Write>(
 /// A run of the command `explain` of an event. The result is the status of the run.
 fn explain_event_asked<R: AllocGlobal + OpensFiles + Print, E: Write>(
     rt: &R,
-    trail: &str,
-    asked: &EventQuestion<'_>,
+    named: NamedFiles<'_>,
+    event: u32,
     errors: &mut Watched<E>,
 ) -> u8
+where
+    R::File: Lock,
     ensures { IsStatus result }
 {
     let Ok(writer) = BufWriter::new(rt.alloc(), io::writer(rt)) else {
         return tell(errors, &ProgramFault::NoMemory);
     };
     let mut writer = Watched::new(writer);
-    let files = read_files(rt, asked.path, trail);
-    let status = run_explain_event(rt.alloc(), files, trail, asked, &mut writer, errors);
+    let Ok(path) = files_path_in(rt.alloc(), named) else {
+        return tell(errors, &ProgramFault::NoMemory);
+    };
+    let asked = EventQuestion {
+        path: path.as_str(),
+        event: u64::from(event),
+    };
+    let files = read_files(rt, named, wanted(true));
+    let place = files_place(named);
+    let status = run_explain_event(rt.alloc(), files, place, &asked, &mut writer, errors);
     let _ = hand_on_rest(writer);
     status
 }
@@ -377,26 +430,15 @@ where
         Command::Serve { setup, hosting } => run_serve(rt, setup, &hosting, errors),
         Command::Chain { folder, hosting } => chain_asked(rt, folder, &hosting, errors),
         Command::Audit { folder, start } => audit_asked(rt, folder, start, errors),
-        Command::Replay {
-            setup,
-            trail,
-            opens,
-        } => replay_asked(rt, setup, AskedReplay { trail, opens }, errors),
+        Command::Replay { files, opens } => replay_asked(rt, files, opens, errors),
         Command::Recover { setup, trail } => recover_asked(rt, setup, trail, errors),
-        Command::State { setup, trail } => state_asked(rt, setup, trail, errors),
-        Command::Check { setup } => check_asked(rt, setup, errors),
-        Command::ExplainEvent {
-            setup,
-            trail,
-            event,
-        } => {
-            let asked = EventQuestion {
-                path: setup,
-                event: u64::from(event),
-            };
-            explain_event_asked(rt, trail, &asked, errors)
-        }
+        Command::State { files } => state_asked(rt, files, errors),
+        Command::Check { setup, .. } => check_asked(rt, setup, errors),
         Command::Explain { setup, asking } => explain_asked(rt, setup, &asking, errors),
+        Command::ExplainTrail { files, at, asking } => {
+            explain_trail_asked(rt, files, at, &asking, errors)
+        }
+        Command::ExplainEvent { files, event } => explain_event_asked(rt, files, event, errors),
     }
 }
 
