@@ -24,11 +24,12 @@ use bl_options::start::AuditStart;
 use bl_question::question::Question;
 use bl_readonly::chain::run_audit;
 use bl_readonly::files::{
-    files_path_in, files_place, read_files, read_setup, setup_path_in, setup_place, wanted,
+    files_path_in, files_place, read_compared, read_files, read_setup, setup_path_in, setup_place,
+    wanted,
 };
 use bl_readonly::run::{
-    AskedReplay, run_check, run_explain, run_explain_event, run_explain_trail, run_replay,
-    run_state,
+    AskedReplay, ComparedNames, run_check, run_check_against, run_explain, run_explain_event,
+    run_explain_trail, run_replay, run_state,
 };
 use bl_recover::recover::recover_on;
 use bl_status::fault::ProgramFault;
@@ -265,6 +266,35 @@ where
     status
 }
 
+/// A run of the command `check` against another setup file. The result is the status of the run.
+fn check_against_asked<R: AllocGlobal + OpensFiles + Print, E: Write>(
+    rt: &R,
+    named: NamedSetup<'_>,
+    old_path: &str,
+    errors: &mut Watched<E>,
+) -> u8
+where
+    R::File: Lock,
+    ensures { IsStatus result }
+{
+    let Ok(writer) = BufWriter::new(rt.alloc(), io::writer(rt)) else {
+        return tell(errors, &ProgramFault::NoMemory);
+    };
+    let mut writer = Watched::new(writer);
+    let Ok(path) = setup_path_in(rt.alloc(), named) else {
+        return tell(errors, &ProgramFault::NoMemory);
+    };
+    let names = ComparedNames {
+        path: path.as_str(),
+        old_path,
+        place: setup_place(named),
+    };
+    let files = read_compared(rt, named, old_path);
+    let status = run_check_against(rt.alloc(), files, &names, &mut writer, errors);
+    let _ = hand_on_rest(writer);
+    status
+}
+
 /// What `explain` is asked, over the setup of this path.
 fn question_of<'a>(path: &'a str, asking: &'a Asking<'a>) -> Question<'a>
     ensures path { result.path.now ≡ path.entry.now }
@@ -433,7 +463,10 @@ where
         Command::Replay { files, opens } => replay_asked(rt, files, opens, errors),
         Command::Recover { setup, trail } => recover_asked(rt, setup, trail, errors),
         Command::State { files } => state_asked(rt, files, errors),
-        Command::Check { setup, .. } => check_asked(rt, setup, errors),
+        Command::Check { setup, against } => match against {
+            Some(old) => check_against_asked(rt, setup, old, errors),
+            None => check_asked(rt, setup, errors),
+        },
         Command::Explain { setup, asking } => explain_asked(rt, setup, &asking, errors),
         Command::ExplainTrail { files, at, asking } => {
             explain_trail_asked(rt, files, at, &asking, errors)

@@ -6,6 +6,7 @@ ghost use Rattle.bl_readonly.specs.Files.{files_path_of, files_place_of, setup_p
 ghost use Rattle.bl_run_files.specs.Reading.{IsTrailOf};
 
 use crate::fault::FilesFault;
+use crate::run::ComparedFiles;
 use bl_disk::device::Device;
 use bl_file::device::SystemFile;
 use bl_file::kept::Keeping;
@@ -163,4 +164,19 @@ where
             )
         }
     }
+}
+
+/// The bytes of the setup that is named, and of the setup file that it is compared with, in the order in which their faults
+/// are told.
+pub fn read_compared<R: AllocGlobal + OpensFiles>(
+    rt: &R,
+    setup: NamedSetup<'_>,
+    old: &str,
+) -> Result<ComparedFiles, FilesFault>
+where
+    R::File: Lock,
+{
+    let new = read_setup(rt, setup)?;
+    let old = read_setup_file(rt, old)?;
+    Ok(ComparedFiles { new, old })
 }

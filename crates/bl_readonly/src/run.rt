@@ -2,6 +2,7 @@
 ghost use Rattle.std.specs.Prelude.{◌≡◌, false, IfOk, IfErr};
 ghost use Rattle.bl_wire.specs.Watch.{used};
 ghost use Rattle.bl_checking.specs.Checks.{IsCheckRun};
+ghost use Rattle.bl_comparing.specs.Comparisons.{IsComparisonRun};
 ghost use Rattle.bl_explaining.specs.Explains.{IsExplainRun};
 ghost use Rattle.bl_explaining_event.specs.Explains.{IsEventRun};
 ghost use Rattle.bl_explaining_trail.specs.Explains.{IsTrailRun};
@@ -14,6 +15,7 @@ ghost use Rattle.bl_readonly.specs.Runs.{EndsReplay};
 use crate::fault::{FilesFault, tell_files};
 use crate::files::Files;
 use bl_checking::check::check_on;
+use bl_comparing::compare::{SetupFile, check_against_on};
 use bl_explaining::explain::explain_on;
 use bl_explaining_event::explain::explain_event_on;
 use bl_explaining_event::question::EventQuestion;
@@ -191,4 +193,54 @@ pub fn run_check<W: Write, E: Write>(
         Ok(bytes) => check_on(alloc, path.as_bytes(), bytes.as_slice(), writer, errors),
         Err(fault) => tell_files(errors, &fault, place),
     }
+}
+
+/// The two setups of `check` against another one.
+#[derive(Drop)]
+pub struct ComparedFiles {
+    /// The setup.
+    pub new: Vec<u8>,
+    /// The one that it is compared with.
+    pub old: Vec<u8>,
+}
+
+/// What a run of `check` against another setup is told: the paths of both, and where the first one is.
+#[derive(Clone, Copy)]
+pub struct ComparedNames<'a> {
+    /// The path of the setup.
+    pub path: &'a str,
+    /// The path of the one that it is compared with.
+    pub old_path: &'a str,
+    /// The path of the setup, or the name of the chain's folder.
+    pub place: &'a str,
+}
+
+/// A run of `check` against another setup, once both were read, or a fault was found, which is told.
+pub fn run_check_against<W: Write, E: Write>(
+    alloc: Global,
+    files: Result<ComparedFiles, FilesFault>,
+    names: &ComparedNames<'_>,
+    writer: &mut Watched<W>,
+    errors: &mut Watched<E>,
+) -> u8
+    ensures run { IfOk files (λ files. IsComparisonRun names.now.path.now files.new.items names.now.old_path.now
+        files.old.items result (used W.contents writer.old writer.new) (used E.contents errors.old errors.new)) }
+    ensures unread { IfErr files
+        (λ fault. HasToldFiles names.now.place.now fault result (used E.contents errors.old errors.new)) }
+    ensures unwritten { IfErr files (λ _. writer.new ≡ writer.old) }
+    ensures status { IsStatus result }
+{
+    let ComparedFiles { new, old } = match files {
+        Ok(files) => files,
+        Err(fault) => return tell_files(errors, &fault, names.place),
+    };
+    let new = SetupFile {
+        name: names.path.as_bytes(),
+        bytes: new.as_slice(),
+    };
+    let old = SetupFile {
+        name: names.old_path.as_bytes(),
+        bytes: old.as_slice(),
+    };
+    check_against_on(alloc, &new, &old, writer, errors)
 }
