@@ -6,6 +6,10 @@ use Rattle.bl_status.specs.Failure.{IsNoSetup}
 use Rattle.bl_status.specs.declared.fault.ProgramFault.{ProgramFault}
 use Rattle.bl_file.specs.declared.kept.Keeping.{Keeping}
 use Rattle.bl_file.specs.declared.kept.Keeping.TheVariants as lines
+use Rattle.bl_control.specs.declared.demand.Demand.{Demand}
+use Rattle.bl_control.specs.declared.demand.Demand.TheVariants.{Stop, Change, Figures}
+use Rattle.bl_options.specs.declared.telling.NamedDemand.{NamedDemand}
+use Rattle.bl_options.specs.declared.telling.NamedDemand.TheVariants as named
 use Rattle.bl_options.specs.declared.trail.TrailKeeping.{TrailKeeping}
 use Rattle.bl_options.specs.declared.trail.TrailKeeping.TheVariants as words
 
@@ -26,3 +30,9 @@ abbrev pub goes_on_at : TrailKeeping → Bool
 goes_on_at words.AtEnd = false
 goes_on_at words.Written = false
 goes_on_at words.Synced = true
+
+-- what is asked of a server, by the words that ask it
+abbrev pub asked_demand : NamedDemand → Demand
+asked_demand (named.Stop within) = Stop within
+asked_demand named.Change = Change
+asked_demand named.Figures = Figures

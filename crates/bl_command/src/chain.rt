@@ -44,10 +44,12 @@ struct ChainStart<'a, R: OpensFiles> {
     at: AtHand<SystemFile<R::File>>,
 }
 
-/// The chain in the folder of this name, for this program alone, and its run at hand, after any crash.
+/// The chain in the folder of this name, for this program alone, and its run at hand, after any crash. The log of this name,
+/// if there is one, is opened anew where a server is asked to change over.
 fn begin_chain<'a, R: AllocGlobal + OpensFiles>(
     rt: &'a R,
     name: &'a str,
+    log_name: Option<&'a str>,
     keeping: Keeping,
 ) -> Result<ChainStart<'a, R>, ChainFault>
 where
@@ -57,7 +59,11 @@ where
     let alloc = rt.alloc();
     let mut folder = SystemFolder::at(rt, alloc, name, keeping)?;
     let at = start::<SystemFile<R::File>, SystemFolder<'a, R>>(alloc, &mut folder)?;
-    let chain = Chain { folder, name };
+    let chain = Chain {
+        folder,
+        name,
+        log_name,
+    };
     Ok(ChainStart { chain, at })
 }
 
@@ -140,7 +146,7 @@ where
 }
 
 /// Runs that follow each other over the chain in the folder of this name, after any crash: the command `serve --chain`. The
-/// result is the status of the program, which ends only with a fault.
+/// result is the status of the program: 0 where it was asked to stop, and the run was closed.
 pub(crate) fn run_chain<
     R: AllocGlobal + OpensFiles + Clock + Threads + Wait + Net + Sync,
     W: Write,
@@ -157,7 +163,7 @@ where
     requires range { IsChainHostingInRange hosting.now }
     ensures { IsEnd result }
 {
-    match begin_chain(rt, name, keeping_of(hosting.is_synced)) {
+    match begin_chain(rt, name, hosting.log, keeping_of(hosting.is_synced)) {
         Ok(begun) => serve_begun(rt, begun, hosting, writer, errors),
         Err(fault) => {
             tell_chain(errors, name, &fault);

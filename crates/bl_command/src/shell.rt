@@ -4,7 +4,9 @@ ghost use Rattle.bl_recover.specs.Recoveries.{IsRecoverRun};
 ghost use Rattle.bl_wire.specs.Watch.{end_state, used};
 ghost use Rattle.bl_status.specs.Runs.{HasTold};
 ghost use Rattle.bl_status.specs.Status.{IsEnd, IsStatus};
+ghost use Rattle.bl_command.specs.Asked.{asked_demand};
 ghost use Rattle.bl_options.specs.Ranges.{IsChainHostingInRange, IsHostingInRange};
+ghost use Rattle.bl_options.specs.Telling.{IsDemandInRange};
 ghost use Rattle.bl_words.specs.Words.{IsInRange};
 
 use crate::alone::{AskedAlone, sit};
@@ -14,6 +16,7 @@ use crate::run::{refuse, run_unread};
 use crate::serve::serve_read;
 use bl_alone::alone_run::AloneRun;
 use bl_chain_audit::noted::NotedRun;
+use bl_control::demand::Demand;
 use bl_explaining_event::question::EventQuestion;
 use bl_explaining_trail::question::TrailQuestion;
 use bl_file::lock::Lock;
@@ -21,6 +24,7 @@ use bl_keep::rest::hand_on_rest;
 use bl_options::hosting::{ChainHosting, Hosting};
 use bl_options::reading::{NamedFiles, NamedSetup};
 use bl_options::start::AuditStart;
+use bl_options::telling::NamedDemand;
 use bl_question::question::Question;
 use bl_readonly::chain::run_audit;
 use bl_readonly::files::{
@@ -35,6 +39,7 @@ use bl_recover::recover::recover_on;
 use bl_status::fault::ProgramFault;
 use bl_status::told::tell;
 use bl_system::files::read_setup_file;
+use bl_telling::tell::tell as tell_server;
 use bl_wire::watched::Watched;
 use bl_words::command::{Asking, Command, read_words};
 use clap::Error;
@@ -387,6 +392,37 @@ where
     status
 }
 
+/// What is asked of a server, by the words that ask it.
+fn demand_in(named: NamedDemand) -> Demand
+    ensures { result ≡ asked_demand named }
+{
+    match named {
+        NamedDemand::Stop { within } => Demand::Stop { within },
+        NamedDemand::Change => Demand::Change,
+        NamedDemand::Figures => Demand::Figures,
+    }
+}
+
+/// A run of the command `tell`. The result is the status of the run.
+fn tell_asked<R: AllocGlobal + Print + Net, E: Write>(
+    rt: &R,
+    folder: &str,
+    named: NamedDemand,
+    errors: &mut Watched<E>,
+) -> u8
+    requires { IsDemandInRange named }
+    ensures { IsStatus result }
+{
+    let Ok(writer) = BufWriter::new(rt.alloc(), io::writer(rt)) else {
+        return tell(errors, &ProgramFault::NoMemory);
+    };
+    let mut writer = Watched::new(writer);
+    let demand = demand_in(named);
+    let status = tell_server(rt, rt.alloc(), folder, demand, &mut writer, errors);
+    let _ = hand_on_rest(writer);
+    status
+}
+
 /// A run of the command `recover`. The result is the status of the run.
 fn recover_asked<R: AllocGlobal + OpensFiles + Print, E: Write>(
     rt: &R,
@@ -461,6 +497,7 @@ where
         Command::Chain { folder, hosting } => chain_asked(rt, folder, &hosting, errors),
         Command::Audit { folder, start } => audit_asked(rt, folder, start, errors),
         Command::Replay { files, opens } => replay_asked(rt, files, opens, errors),
+        Command::Tell { folder, demand } => tell_asked(rt, folder, demand, errors),
         Command::Recover { setup, trail } => recover_asked(rt, setup, trail, errors),
         Command::State { files } => state_asked(rt, files, errors),
         Command::Check { setup, against } => match against {
