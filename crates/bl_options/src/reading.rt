@@ -62,7 +62,7 @@ fn run_of<'a>(options: &ArgMatches<'a>) -> Option<ChainRun<'a>>
 }
 
 /// The setup that the options name: a file's, or that of a run of a chain; `None` where they name none, or both.
-pub fn setup_of<'a>(options: &ArgMatches<'a>) -> Option<NamedSetup<'a>>
+pub fn named_setup<'a>(options: &ArgMatches<'a>) -> Option<NamedSetup<'a>>
     ensures range { IfSome result IsSetupInRange }
     ensures written { IfSome result (HasSetup options.now) }
     ensures none { IfNone result ((setup : AnySetup) → HasSetup options.now setup → IsSetupInRange setup → ⊥) }
@@ -80,7 +80,7 @@ pub fn setup_of<'a>(options: &ArgMatches<'a>) -> Option<NamedSetup<'a>>
 
 /// The setup and the trail that the options name: those of two files, or those of a run of a chain; `None` where they
 /// name one alone, none, or both.
-pub fn files_of<'a>(options: &ArgMatches<'a>) -> Option<NamedFiles<'a>>
+pub fn named_files<'a>(options: &ArgMatches<'a>) -> Option<NamedFiles<'a>>
     ensures range { IfSome result AreFilesInRange }
     ensures written { IfSome result (HasFiles options.now) }
     ensures none { IfNone result ((files : AnyFiles) → HasFiles options.now files → AreFilesInRange files → ⊥) }

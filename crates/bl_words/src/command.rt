@@ -18,7 +18,7 @@ use bl_options::hosting::{
 };
 use bl_options::moment::at_of;
 use bl_options::number::{is_said, number};
-use bl_options::reading::{NamedFiles, NamedSetup, files_of, names_no_run, setup_of};
+use bl_options::reading::{NamedFiles, NamedSetup, named_files, named_setup, names_no_run};
 use bl_options::start::{AuditStart, start_of};
 use bl_options::telling::{NamedDemand, demand_of};
 use bl_options::trail::{TrailKeeping, keeping_of, may_keep, resumes, trail_of};
@@ -247,7 +247,7 @@ fn replay_of<'a>(options: &ArgMatches<'a>) -> Option<Command<'a>>
     ensures written { IfSome result (IsOfOptions (codes "replay") options.now) }
     ensures none { IfNone result (HasNoCommand (codes "replay") options.now) }
 {
-    let files = files_of(options)?;
+    let files = named_files(options)?;
     Some(Command::Replay {
         files,
         opens: options.get_flag("open"),
@@ -271,7 +271,7 @@ fn state_of<'a>(options: &ArgMatches<'a>) -> Option<Command<'a>>
     ensures written { IfSome result (IsOfOptions (codes "state") options.now) }
     ensures none { IfNone result (HasNoCommand (codes "state") options.now) }
 {
-    let files = files_of(options)?;
+    let files = named_files(options)?;
     Some(Command::State { files })
 }
 
@@ -281,7 +281,7 @@ fn check_of<'a>(options: &ArgMatches<'a>) -> Option<Command<'a>>
     ensures written { IfSome result (IsOfOptions (codes "check") options.now) }
     ensures none { IfNone result (HasNoCommand (codes "check") options.now) }
 {
-    let setup = setup_of(options)?;
+    let setup = named_setup(options)?;
     let against = options.get_str("against");
     Some(Command::Check { setup, against })
 }
@@ -330,7 +330,7 @@ fn explain_trail<'a>(options: &ArgMatches<'a>, asking: Asking<'a>) -> Option<Com
     ensures written { IfSome result (IsOfOptions (codes "explain") options.now) }
     ensures none { IfNone result (HasNoCommand (codes "explain") options.now) }
 {
-    let files = files_of(options)?;
+    let files = named_files(options)?;
     let Ok(at) = at_of(options) else {
         return None;
     };
@@ -374,7 +374,7 @@ fn explain_event_of<'a>(options: &ArgMatches<'a>) -> Option<Command<'a>>
     ensures written { IfSome result (IsOfOptions (codes "explain") options.now) }
     ensures none { IfNone result (HasNoEvent options.now) }
 {
-    let files = files_of(options)?;
+    let files = named_files(options)?;
     let event = number(options, "event", 1, MOST_EVENTS)?;
     if asks_else(options) {
         return None;
