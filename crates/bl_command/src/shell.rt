@@ -257,13 +257,13 @@ where
     R::File: Lock,
     ensures { IsStatus result }
 {
+    let Ok(path) = setup_path_in(rt.alloc(), named) else {
+        return tell(errors, &ProgramFault::NoMemory);
+    };
     let Ok(writer) = BufWriter::new(rt.alloc(), io::writer(rt)) else {
         return tell(errors, &ProgramFault::NoMemory);
     };
     let mut writer = Watched::new(writer);
-    let Ok(path) = setup_path_in(rt.alloc(), named) else {
-        return tell(errors, &ProgramFault::NoMemory);
-    };
     let setup = read_setup(rt, named);
     let place = setup_place(named);
     let status = run_check(rt.alloc(), setup, path.as_str(), place, &mut writer, errors);
@@ -282,13 +282,13 @@ where
     R::File: Lock,
     ensures { IsStatus result }
 {
+    let Ok(path) = setup_path_in(rt.alloc(), named) else {
+        return tell(errors, &ProgramFault::NoMemory);
+    };
     let Ok(writer) = BufWriter::new(rt.alloc(), io::writer(rt)) else {
         return tell(errors, &ProgramFault::NoMemory);
     };
     let mut writer = Watched::new(writer);
-    let Ok(path) = setup_path_in(rt.alloc(), named) else {
-        return tell(errors, &ProgramFault::NoMemory);
-    };
     let names = ComparedNames {
         path: path.as_str(),
         old_path,
@@ -345,13 +345,13 @@ where
     R::File: Lock,
     ensures { IsStatus result }
 {
+    let Ok(path) = files_path_in(rt.alloc(), named) else {
+        return tell(errors, &ProgramFault::NoMemory);
+    };
     let Ok(writer) = BufWriter::new(rt.alloc(), io::writer(rt)) else {
         return tell(errors, &ProgramFault::NoMemory);
     };
     let mut writer = Watched::new(writer);
-    let Ok(path) = files_path_in(rt.alloc(), named) else {
-        return tell(errors, &ProgramFault::NoMemory);
-    };
     let asked = TrailQuestion {
         question: question_of(path.as_str(), asking),
         at: at.map(u64::from),
@@ -374,13 +374,13 @@ where
     R::File: Lock,
     ensures { IsStatus result }
 {
+    let Ok(path) = files_path_in(rt.alloc(), named) else {
+        return tell(errors, &ProgramFault::NoMemory);
+    };
     let Ok(writer) = BufWriter::new(rt.alloc(), io::writer(rt)) else {
         return tell(errors, &ProgramFault::NoMemory);
     };
     let mut writer = Watched::new(writer);
-    let Ok(path) = files_path_in(rt.alloc(), named) else {
-        return tell(errors, &ProgramFault::NoMemory);
-    };
     let asked = EventQuestion {
         path: path.as_str(),
         event: u64::from(event),
