@@ -131,6 +131,29 @@ from_rule = number_rule (codes "from") 1 999999999
 abbrev pub digest_rule : Rule
 digest_rule = text_rule (codes "digest")
 
+-- own choice: `--json` of `report` may be given, and takes nothing
+abbrev pub json_rule : Rule
+json_rule = flag_rule (codes "json")
+
+-- own choice: what is told is picked by options that may be left out, and take any text
+abbrev pub picked_subject_rule : Rule
+picked_subject_rule = text_rule (codes "subject")
+
+abbrev pub picked_document_rule : Rule
+picked_document_rule = text_rule (codes "document")
+
+abbrev pub picked_level_rule : Rule
+picked_level_rule = text_rule (codes "level")
+
+abbrev pub outcome_rule : Rule
+outcome_rule = text_rule (codes "outcome")
+
+abbrev pub told_from_rule : Rule
+told_from_rule = text_rule (codes "from")
+
+abbrev pub told_until_rule : Rule
+told_until_rule = text_rule (codes "until")
+
 -- a word of this name may stand in its place, without an option before it
 abbrev pub word_rule : List ℕ → Rule
 word_rule name = record (new_rule name) { action = Some Set; value_names = 1 }
@@ -195,6 +218,13 @@ explain_app = app_with (codes "explain")
 abbrev pub audit_app : App
 audit_app = app_with (codes "audit") (whole_chain_rule ∷ from_rule ∷ digest_rule ∷ [])
 
+-- own choice: the command `report` has a setup and a trail, or a run of a chain, whether it is told as JSON, and what of it
+-- is told
+abbrev pub report_app : App
+report_app = app_with (codes "report")
+    (optional_setup_rule ∷ optional_trail_rule ∷ chain_rule ∷ run_rule ∷ json_rule ∷ picked_subject_rule
+    ∷ picked_document_rule ∷ picked_level_rule ∷ outcome_rule ∷ told_from_rule ∷ told_until_rule ∷ [])
+
 -- own choice: the command `tell` has a chain and a word for what is asked for, and it may have a number of seconds
 abbrev pub tell_app : App
 tell_app = app_with (codes "tell") (whole_chain_rule ∷ within_rule ∷ demand_rule ∷ [])
@@ -208,8 +238,10 @@ pub record IsLocal (app : App) (parser : Command) : Type 0 where
 abbrev pub root_app : App
 root_app = on_top (λ s. record s { has_version = true; subcommand_required = true }) (new_app (codes "bl_server"))
 
--- own choice: the commands are `alone`, `serve`, `replay`, `recover`, `state`, `check`, `explain`, `audit` and `tell`
+-- own choice: the commands are `alone`, `serve`, `replay`, `recover`, `state`, `check`, `explain`, `audit`, `report` and
+-- `tell`
 abbrev pub server_app : App
 server_app = with_subcommand (with_subcommand (with_subcommand (with_subcommand (with_subcommand (with_subcommand
-    (with_subcommand (with_subcommand (with_subcommand root_app alone_app.top) serve_app.top) replay_app.top)
-    recover_app.top) state_app.top) check_app.top) explain_app.top) audit_app.top) tell_app.top
+    (with_subcommand (with_subcommand (with_subcommand (with_subcommand root_app alone_app.top) serve_app.top)
+    replay_app.top) recover_app.top) state_app.top) check_app.top) explain_app.top) audit_app.top) report_app.top)
+    tell_app.top

@@ -7,7 +7,9 @@ ghost use Rattle.bl_command_line.specs.CommandLine.{flag_rule, from_rule, idle_r
 ghost use Rattle.bl_command_line.specs.CommandLine.{limit_rule, log_rule, number_rule, open_rule};
 ghost use Rattle.bl_command_line.specs.CommandLine.{optional_setup_rule, optional_trail_rule, port_rule, replace_rule, resume_rule, run_rule};
 ghost use Rattle.bl_command_line.specs.CommandLine.{sessions_rule, setup_rule, subject_rule, text_rule, threads_rule};
+ghost use Rattle.bl_command_line.specs.CommandLine.{json_rule, outcome_rule, picked_document_rule, picked_level_rule};
 ghost use Rattle.bl_command_line.specs.CommandLine.{demand_rule, within_rule};
+ghost use Rattle.bl_command_line.specs.CommandLine.{picked_subject_rule, told_from_rule, told_until_rule};
 ghost use Rattle.bl_command_line.specs.CommandLine.{trail_limit_rule, trail_rule, wish_rule, word_rule, workers_rule};
 
 use crate::bounds::{
@@ -363,6 +365,77 @@ pub(crate) fn digest_option<'a>(alloc: Global) -> Arg<'a>
         "digest",
         "SHA256",
         "The checksum that an earlier audit told of that run's setup, 64 digits of 0 to 9 and a to f",
+    )
+}
+
+pub(crate) fn json_option<'a>(alloc: Global) -> Arg<'a>
+    ensures { rule_of result ≡ json_rule }
+{
+    flag_option(
+        alloc,
+        "json",
+        "A line of JSON for each item, in the order of events",
+    )
+}
+
+pub(crate) fn picked_subject_option<'a>(alloc: Global) -> Arg<'a>
+    ensures { rule_of result ≡ picked_subject_rule }
+{
+    text_option(alloc, "subject", "NAME", "Only what this subject did")
+}
+
+pub(crate) fn picked_document_option<'a>(alloc: Global) -> Arg<'a>
+    ensures { rule_of result ≡ picked_document_rule }
+{
+    text_option(
+        alloc,
+        "document",
+        "NAME",
+        "Only what was done with this document",
+    )
+}
+
+pub(crate) fn picked_level_option<'a>(alloc: Global) -> Arg<'a>
+    ensures { rule_of result ≡ picked_level_rule }
+{
+    text_option(
+        alloc,
+        "level",
+        "LEVEL",
+        "Only what was done with documents whose level then dominates this one",
+    )
+}
+
+pub(crate) fn outcome_option<'a>(alloc: Global) -> Arg<'a>
+    ensures { rule_of result ≡ outcome_rule }
+{
+    text_option(
+        alloc,
+        "outcome",
+        "WORD",
+        "Only what came out so: held, refused, changed, exempt, down, lost or running",
+    )
+}
+
+pub(crate) fn told_from_option<'a>(alloc: Global) -> Arg<'a>
+    ensures { rule_of result ≡ told_from_rule }
+{
+    text_option(
+        alloc,
+        "from",
+        "WHEN",
+        "Only from this event on, or from this time on, as the clock says",
+    )
+}
+
+pub(crate) fn told_until_option<'a>(alloc: Global) -> Arg<'a>
+    ensures { rule_of result ≡ told_until_rule }
+{
+    text_option(
+        alloc,
+        "until",
+        "WHEN",
+        "Only up to this event, or up to this time, as the clock says",
     )
 }
 

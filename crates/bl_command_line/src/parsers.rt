@@ -2,15 +2,17 @@
 ghost use Rattle.std.specs.Prelude.{◌≡◌, IfOk};
 ghost use Rattle.clap.specs.Words.{App, app_of, with_subcommand};
 ghost use Rattle.bl_command_line.specs.CommandLine.{IsLocal, alone_app, audit_app, check_app, explain_app, recover_app};
-ghost use Rattle.bl_command_line.specs.CommandLine.{replay_app, serve_app, server_app, state_app, tell_app};
+ghost use Rattle.bl_command_line.specs.CommandLine.{replay_app, report_app, serve_app, server_app, state_app, tell_app};
 
 use crate::options::{
     against_option, at_option, carried_option, chain_option, claim_option, clients_option,
-    demand_word, digest_option, doors_option, event_option, from_option, idle_option, keep_option,
-    limit_option, log_option, open_option, optional_setup_option, optional_trail_option,
-    port_option, replace_option, resume_option, run_option, sessions_option, setup_option,
-    subject_word, threads_option, trail_limit_option, trail_option, whole_chain_option, wish_words,
-    within_option, workers_option,
+    demand_word, digest_option, doors_option, event_option, from_option, idle_option, json_option,
+    keep_option, limit_option, log_option, open_option, optional_setup_option,
+    optional_trail_option, outcome_option, picked_document_option, picked_level_option,
+    picked_subject_option, port_option, replace_option, resume_option, run_option, sessions_option,
+    setup_option, subject_word, threads_option, told_from_option, told_until_option,
+    trail_limit_option, trail_option, whole_chain_option, wish_words, within_option,
+    workers_option,
 };
 use bl_asked::version::VERSION;
 use clap::Command as Parser;
@@ -182,6 +184,30 @@ fn audit_parser<'a>(alloc: Global) -> Result<Parser<'a>, AllocError>
         .args(options)
 }
 
+fn report_parser<'a>(alloc: Global) -> Result<Parser<'a>, AllocError>
+    ensures { IfOk result (IsLocal report_app) }
+{
+    let options = vec![in alloc;
+        optional_setup_option(alloc),
+        optional_trail_option(alloc, READ_TRAIL),
+        chain_option(alloc),
+        run_option(alloc),
+        json_option(alloc),
+        picked_subject_option(alloc),
+        picked_document_option(alloc),
+        picked_level_option(alloc),
+        outcome_option(alloc),
+        told_from_option(alloc),
+        told_until_option(alloc),
+    ]?;
+    Parser::new(alloc, "report")
+        .about(
+            "What a trail tells: who held what when, by which right, what was refused and what was changed",
+        )
+        .after_help(MORE)
+        .args(options)
+}
+
 fn tell_parser<'a>(alloc: Global) -> Result<Parser<'a>, AllocError>
     ensures { IfOk result (IsLocal tell_app) }
 {
@@ -224,5 +250,6 @@ pub fn parser<'a>(alloc: Global) -> Result<Parser<'a>, AllocError>
     let parser = with_command(parser, check_parser(alloc))?;
     let parser = with_command(parser, explain_parser(alloc))?;
     let parser = with_command(parser, audit_parser(alloc))?;
+    let parser = with_command(parser, report_parser(alloc))?;
     with_command(parser, tell_parser(alloc))
 }

@@ -1,3 +1,4 @@
 pub mod Ranges
 pub mod Said
+pub mod Report
 pub mod Telling

@@ -25,7 +25,9 @@ use Rattle.bl_asked.specs.declared.trail.TrailFile.{TrailFile}
 use Rattle.bl_command_line.specs.CommandLine.{server_app}
 use Rattle.bl_options.proofs.Given.{given_not_left_out, none_weaker, some_same, words_differ}
 use Rattle.bl_options.specs.Ranges.{AreFilesInRange, IsAtInRange, IsChainHostingInRange, IsHostingInRange, MayKeep}
+use Rattle.bl_options.specs.Report.{HasOutcome, HasReport}
 use Rattle.bl_options.specs.Telling.{HasDemand, HasWithin}
+use Rattle.bl_options.specs.declared.report.NamedOutcome.{NamedOutcome}
 use Rattle.bl_options.specs.declared.telling.NamedDemand.{NamedDemand}
 use Rattle.bl_options.specs.declared.telling.NamedDemand.TheVariants.{Stop, Change, Figures}
 use Rattle.bl_options.specs.Said.{HasChainHosting, HasCount, HasEntrance, HasFiles, HasFlag, HasHosting, HasKeeping, HasNoRun, HasNumber, HasNumberOr, HasResume, HasRun, HasSetup, HasStart, HasSyncing, HasTrail, IsSaid, LeavesAllToChain, keeping_word}
@@ -46,7 +48,7 @@ use Rattle.bl_options.specs.declared.hosting.NamedEntrance.TheVariants.{Port, Do
 use Rattle.bl_options.specs.declared.hosting.Hosting.{Hosting}
 use Rattle.bl_options.specs.declared.trail.TrailKeeping.{TrailKeeping}
 use Rattle.bl_options.specs.declared.trail.TrailKeeping.TheVariants.{AtEnd, Written, Synced}
-use Rattle.bl_words.specs.declared.command.Command.TheVariants.{Alone, Serve, Chain, Replay, Recover, State, Check, Explain, ExplainTrail, ExplainEvent, Audit, Tell}
+use Rattle.bl_words.specs.declared.command.Command.TheVariants.{Alone, Serve, Chain, Replay, Recover, State, Check, Explain, ExplainTrail, ExplainEvent, Audit, Report, Tell}
 
 server_is_simple : is_simple server_app ≡ true
 unfolding clap_on_literals
@@ -168,6 +170,10 @@ module _ (a b : ArgMatches) (same : rows_of (found_of a) ≡ rows_of (found_of b
   files_same (Files setup trail) has = (first_same (codes "setup") ∙ has.0, first_same (codes "trail") ∙ has.1, no_run_same has.2)
   files_same (trails.OfRun run) has = (first_same (codes "setup") ∙ has.0, first_same (codes "trail") ∙ has.1, run_same run has.2)
 
+  outcome_same : (outcome : Option NamedOutcome) → HasOutcome a outcome → HasOutcome b outcome
+  outcome_same None has = first_same (codes "outcome") ∙ has
+  outcome_same (Some outcome) has = first_same (codes "outcome") ∙ has
+
   within_same : (within : ℕ) → HasWithin a within → HasWithin b within
   within_same within (inl has) = inl (first_same (codes "within") ∙ has.0, has.1)
   within_same within (inr has) = inr (number_same (codes "within") within has)
@@ -251,6 +257,18 @@ module _ (a b : ArgMatches) (same : rows_of (found_of a) ≡ rows_of (found_of b
     (first_same (codes "carried") ∙ has.2.0, first_same (codes "at") ∙ has.2.1, first_same (codes "subject") ∙ has.2.2),
   )
   options_same (Audit folder start) has = (first_same (codes "chain") ∙ has.0, start_same start has.1)
+  options_same (Report files report) has = (
+    files_same files has.0,
+    record {
+      json = flag_same (codes "json") report.is_json has.1.json;
+      subject = has.1.subject ∙ sym (first_same (codes "subject"));
+      document = has.1.document ∙ sym (first_same (codes "document"));
+      level = has.1.level ∙ sym (first_same (codes "level"));
+      outcome = outcome_same report.outcome has.1.outcome;
+      from = has.1.from ∙ sym (first_same (codes "from"));
+      until = has.1.until ∙ sym (first_same (codes "until"));
+    },
+  )
   options_same (Tell folder demand) has = (first_same (codes "chain") ∙ has.0, demand_same demand has.1)
 
 -- `state` and `serve`, and `audit` and `alone`, differ in their second letters
@@ -273,6 +291,7 @@ module _ (options : ArgMatches) where
   only_alone none' (ExplainTrail files at asking) is range = words_differ 101 97 _ _ (λ e. omega arith) is.word_is
   only_alone none' (ExplainEvent files event) is range = words_differ 101 97 _ _ (λ e. omega arith) is.word_is
   only_alone none' (Audit folder start) is range = later_differ 97 97 117 108 _ _ (λ e. omega arith) is.word_is
+  only_alone none' (Report files report) is range = words_differ 114 97 _ _ (λ e. omega arith) is.word_is
   only_alone none' (Tell folder demand) is range = words_differ 116 97 _ _ (λ e. omega arith) is.word_is
 
   -- the word `serve` has two, of one run and of a chain
@@ -290,6 +309,7 @@ module _ (options : ArgMatches) where
   only_serve none' unchained (ExplainTrail files at asking) is range = words_differ 101 115 _ _ (λ e. omega arith) is.word_is
   only_serve none' unchained (ExplainEvent files event) is range = words_differ 101 115 _ _ (λ e. omega arith) is.word_is
   only_serve none' unchained (Audit folder start) is range = words_differ 97 115 _ _ (λ e. omega arith) is.word_is
+  only_serve none' unchained (Report files report) is range = words_differ 114 115 _ _ (λ e. omega arith) is.word_is
   only_serve none' unchained (Tell folder demand) is range = words_differ 116 115 _ _ (λ e. omega arith) is.word_is
 
   -- the word `explain` has three, over a setup, where a trail leads, and of an event
@@ -308,6 +328,7 @@ module _ (options : ArgMatches) where
   only_explain none' no_trail no_event (ExplainTrail files at asking) is range = no_trail files at asking is.has range
   only_explain none' no_trail no_event (ExplainEvent files event) is range = no_event files event is.has range
   only_explain none' no_trail no_event (Audit folder start) is range = words_differ 97 101 _ _ (λ e. omega arith) is.word_is
+  only_explain none' no_trail no_event (Report files report) is range = words_differ 114 101 _ _ (λ e. omega arith) is.word_is
   only_explain none' no_trail no_event (Tell folder demand) is range = words_differ 116 101 _ _ (λ e. omega arith) is.word_is
 
   -- an option without a text has no number

@@ -12,6 +12,7 @@ use Rattle.clap.specs.declared.parser.matches.ArgMatches.{ArgMatches}
 use Rattle.clap.specs.declared.parser.matches.Found.{Found}
 use Rattle.bl_command_line.specs.CommandLine.{server_app}
 use Rattle.bl_options.specs.Ranges.{AreFilesInRange, IsAtInRange, IsChainHostingInRange, IsHostingInRange, IsSetupInRange, IsStartInRange, MayKeep}
+use Rattle.bl_options.specs.Report.{HasReport}
 use Rattle.bl_options.specs.Said.{HasChainHosting, HasCount, HasFiles, HasFlag, HasHosting, HasKeeping, HasNoRun, HasNumber}
 use Rattle.bl_options.specs.Said.{HasResume, HasSetup, HasStart, HasTrail, IsSaid}
 use Rattle.bl_options.specs.Telling.{HasDemand, IsDemandInRange}
@@ -23,7 +24,7 @@ use Rattle.bl_options.specs.declared.reading.NamedSetup.TheVariants as setups
 use Rattle.bl_options.specs.declared.reading.NamedSetup.TheVariants.{File}
 use Rattle.bl_words.specs.declared.command.Asking.{Asking}
 use Rattle.bl_words.specs.declared.command.Command.{Command}
-use Rattle.bl_words.specs.declared.command.Command.TheVariants.{Alone, Serve, Chain, Replay, Recover, State, Check, Explain, ExplainTrail, ExplainEvent, Audit, Tell}
+use Rattle.bl_words.specs.declared.command.Command.TheVariants.{Alone, Serve, Chain, Replay, Recover, State, Check, Explain, ExplainTrail, ExplainEvent, Audit, Report, Tell}
 
 -- each number is in its range, and a trail is kept so as it may be
 abbrev pub IsInRange : Command → Type 0
@@ -39,6 +40,7 @@ IsInRange (Explain setup asking) = Unit {0}
 IsInRange (ExplainTrail files at asking) = AreFilesInRange files × IsAtInRange at
 IsInRange (ExplainEvent files event) = AreFilesInRange files × ((1 ≤ event) × (event ≤ 4294967295))
 IsInRange (Audit folder start) = IsStartInRange start
+IsInRange (Report files report) = AreFilesInRange files
 IsInRange (Tell folder demand) = IsDemandInRange demand
 
 -- the names of the setup file and of the trail file; the files of a run of a chain are named by its folder
@@ -67,6 +69,7 @@ setup_of (Explain setup asking) = Some setup.now
 setup_of (ExplainTrail files at asking) = setup_file_of files
 setup_of (ExplainEvent files event) = setup_file_of files
 setup_of (Audit folder start) = None
+setup_of (Report files report) = setup_file_of files
 setup_of (Tell folder demand) = None
 
 -- the name of the trail file that a command reads; the trail of a run of a chain is named by its folder
@@ -82,6 +85,7 @@ read_trail_of (Explain setup asking) = None
 read_trail_of (ExplainTrail files at asking) = trail_file_of files
 read_trail_of (ExplainEvent files event) = trail_file_of files
 read_trail_of (Audit folder start) = None
+read_trail_of (Report files report) = trail_file_of files
 read_trail_of (Tell folder demand) = None
 
 -- the word for a command
@@ -97,6 +101,7 @@ word_of (Explain setup asking) = codes "explain"
 word_of (ExplainTrail files at asking) = codes "explain"
 word_of (ExplainEvent files event) = codes "explain"
 word_of (Audit folder start) = codes "audit"
+word_of (Report files report) = codes "report"
 word_of (Tell folder demand) = codes "tell"
 
 -- all texts of the option or word of this name, where it was given
@@ -151,6 +156,7 @@ HasOptions options (ExplainEvent files event) =
     HasFiles options files × HasNumber options (codes "event") event × AsksNothingElse options
 HasOptions options (Audit folder start) =
     (first_value (found_of options) (codes "chain") ≡ Some folder.now) × HasStart options start
+HasOptions options (Report files report) = HasFiles options files × HasReport options report
 HasOptions options (Tell folder demand) =
     (first_value (found_of options) (codes "chain") ≡ Some folder.now) × HasDemand options demand
 

@@ -19,6 +19,7 @@ use bl_options::hosting::{
 use bl_options::moment::at_of;
 use bl_options::number::{is_said, number};
 use bl_options::reading::{NamedFiles, NamedSetup, named_files, named_setup, names_no_run};
+use bl_options::report::{NamedReport, report_of};
 use bl_options::start::{AuditStart, start_of};
 use bl_options::telling::{NamedDemand, demand_of};
 use bl_options::trail::{TrailKeeping, keeping_of, may_keep, resumes, trail_of};
@@ -49,6 +50,7 @@ impl<'a> Command<'a> {
             | Command::Explain { setup, .. } => Some(setup),
             Command::Replay { files, .. }
             | Command::State { files }
+            | Command::Report { files, .. }
             | Command::ExplainTrail { files, .. }
             | Command::ExplainEvent { files, .. } => setup_file(*files),
             Command::Check { setup, .. } => match setup {
@@ -75,6 +77,7 @@ impl<'a> Command<'a> {
             | Command::Tell { .. } => None,
             Command::Replay { files, .. }
             | Command::State { files }
+            | Command::Report { files, .. }
             | Command::ExplainTrail { files, .. }
             | Command::ExplainEvent { files, .. } => trail_file(*files),
         }
@@ -188,6 +191,13 @@ pub enum Command<'a> {
         folder: &'a str,
         /// Where it begins; `None` for the first run of the folder.
         start: Option<AuditStart<'a>>,
+    },
+    /// What a trail tells, over the setup that the run began with.
+    Report {
+        /// The setup and the trail.
+        files: NamedFiles<'a>,
+        /// What of it is told, and how.
+        report: NamedReport<'a>,
     },
     /// What is asked of the server that works in the folder of a chain.
     Tell {
@@ -413,6 +423,17 @@ fn audit_of<'a>(options: &ArgMatches<'a>) -> Option<Command<'a>>
     Some(Command::Audit { folder, start })
 }
 
+/// The command `report` with these options.
+fn report_with<'a>(options: &ArgMatches<'a>) -> Option<Command<'a>>
+    ensures range { IfSome result IsInRange }
+    ensures written { IfSome result (IsOfOptions (codes "report") options.now) }
+    ensures none { IfNone result (HasNoCommand (codes "report") options.now) }
+{
+    let files = named_files(options)?;
+    let report = report_of(options)?;
+    Some(Command::Report { files, report })
+}
+
 /// The command `tell` with these options.
 fn tell_of<'a>(options: &ArgMatches<'a>) -> Option<Command<'a>>
     ensures range { IfSome result IsInRange }
@@ -443,6 +464,7 @@ fn command_of<'a>(alloc: Global, found: &ArgMatches<'a>) -> Result<Option<Comman
         "check" => Ok(check_of(options)),
         "explain" => explain_of(alloc, options),
         "audit" => Ok(audit_of(options)),
+        "report" => Ok(report_with(options)),
         "tell" => Ok(tell_of(options)),
         _ => Ok(None),
     }
@@ -483,7 +505,7 @@ const EXPLAINED: &str =
     "explain takes --setup, with or without --trail, or --chain and --run in place of them; SUBJECT and WHAT, and --at \
     with a trail; or --event with a trail in place of these";
 
-/// Why the options of `replay` or of `state` name no command.
+/// Why the options of `replay`, `state` or `report` name no command.
 const OF_FILES: &str =
     "the command takes both --setup and --trail, or both --chain and --run in place of them";
 
@@ -493,6 +515,14 @@ const CHECKED: &str = "check takes --setup, or both --chain and --run in place o
 /// Why the options and the word of `tell` name no command.
 const TOLD: &str =
     "tell takes stop, change or figures; and --within, 1 to 86400 seconds, with stop alone";
+
+/// Why the options of `report` name no command.
+fn why_no_report(options: &ArgMatches<'_>) -> &'static str {
+    if named_files(options).is_none() {
+        return OF_FILES;
+    }
+    "--outcome takes held, refused, changed, exempt, down, lost or running"
+}
 
 /// Why the matches name no command, for whoever gave the words.
 fn why_none(found: &ArgMatches<'_>) -> &'static str {
@@ -506,6 +536,7 @@ fn why_none(found: &ArgMatches<'_>) -> &'static str {
         }
         Some(("replay" | "state", _)) => OF_FILES,
         Some(("check", _)) => CHECKED,
+        Some(("report", options)) => why_no_report(options),
         Some(("tell", _)) => TOLD,
         Some(("explain", _)) => EXPLAINED,
         Some(("audit", _)) => AUDITED,

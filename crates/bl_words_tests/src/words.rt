@@ -3,6 +3,7 @@ use bl_asked::options::Options;
 use bl_asked::trail::TrailFile;
 use bl_options::hosting::{ChainHosting, Hosting, NamedEntrance};
 use bl_options::reading::{ChainRun, NamedFiles, NamedSetup};
+use bl_options::report::{NamedOutcome, NamedReport};
 use bl_options::telling::NamedDemand;
 use bl_options::trail::TrailKeeping;
 use bl_words::command::{Command, read_words, status_of};
@@ -764,6 +765,7 @@ fn name_run(alloc: Global, text: &str) -> Result<bool, Fail> {
     let is_read = match command {
         Command::Replay { files, .. }
         | Command::State { files }
+        | Command::Report { files, .. }
         | Command::ExplainTrail { files, .. }
         | Command::ExplainEvent { files, .. } => files == NamedFiles::OfRun(RUN),
         Command::Check { setup, .. } => setup == NamedSetup::OfRun(RUN),
@@ -780,6 +782,7 @@ fn reads_a_run_of_a_chain(rt: HostRuntime) -> Result<(), Fail> {
         "bl_server replay --open --run 7 --chain day",
         "bl_server state --chain day --run 7",
         "bl_server check --run +7 --chain day",
+        "bl_server report --chain day --run 7",
         "bl_server explain --chain day --run 7 bob read memo",
         "bl_server explain --chain day --run 7 --at 0 --carried u bob read memo",
         "bl_server explain --chain day --run 7 --event 9",
@@ -807,6 +810,7 @@ fn refuses_half_a_run(rt: HostRuntime) -> Result<(), Fail> {
         "replay",
         "state",
         "check",
+        "report",
         "explain bob read memo",
         "explain --event 7",
     ] {
@@ -879,6 +883,65 @@ fn reads_check_against_another_setup(rt: HostRuntime) -> Result<(), Fail> {
             "at {more}"
         );
     }
+    Ok(())
+}
+
+/// What a report tells of which these words say it, over the files that most words name.
+fn told_of<'a>(alloc: Global, given: &'a [String]) -> Option<NamedReport<'a>> {
+    match read_words(alloc, given) {
+        Ok(Command::Report { files, report }) if files == PLAIN_FILES => Some(report),
+        Ok(_) | Err(_) => None,
+    }
+}
+
+#[test]
+fn reads_report(rt: HostRuntime) -> Result<(), Fail> {
+    let alloc = rt.alloc();
+    let plain = words(alloc, "bl_server report --setup base.txt --trail run.trail")?;
+    let report = told_of(alloc, plain.as_slice()).ok_or("no report")?;
+    assert!(rt; !report.is_json);
+    assert!(rt; report.subject.is_none() && report.document.is_none() && report.level.is_none());
+    assert!(rt; report.outcome.is_none() && report.from.is_none() && report.until.is_none());
+    let all = words(
+        alloc,
+        "bl_server report --json --until 2026-11-27T09 --from 7 --outcome down --level s{nato} --document memo \
+        --subject bob --setup base.txt --trail run.trail",
+    )?;
+    let report = told_of(alloc, all.as_slice()).ok_or("no report")?;
+    assert!(rt; report.is_json);
+    assert_eq!(rt; report.subject, Some("bob"));
+    assert_eq!(rt; report.document, Some("memo"));
+    assert_eq!(rt; report.level, Some("s{nato}"));
+    assert_eq!(rt; report.outcome, Some(NamedOutcome::Down));
+    assert_eq!(rt; report.from, Some("7"));
+    assert_eq!(rt; report.until, Some("2026-11-27T09"));
+    Ok(())
+}
+
+/// What a report picks came out in one of seven ways.
+#[test]
+fn reads_how_it_came_out(rt: HostRuntime) -> Result<(), Fail> {
+    let alloc = rt.alloc();
+    for (word, wanted) in [
+        ("held", NamedOutcome::Held),
+        ("refused", NamedOutcome::Refused),
+        ("changed", NamedOutcome::Changed),
+        ("exempt", NamedOutcome::Exempt),
+        ("down", NamedOutcome::Down),
+        ("lost", NamedOutcome::Lost),
+        ("running", NamedOutcome::Running),
+    ] {
+        let text = format!(in alloc;
+            "bl_server report --setup base.txt --trail run.trail --outcome {word}"
+        )?;
+        let given = words(alloc, text.as_str())?;
+        let report = told_of(alloc, given.as_slice()).ok_or("no report")?;
+        assert_eq!(rt; report.outcome, Some(wanted), "at {word}");
+    }
+    let text = "bl_server report --setup base.txt --trail run.trail --outcome denied";
+    assert_eq!(rt; status_without_a_command(alloc, text)?, Some(2));
+    let said = said_without_a_command(alloc, text)?;
+    assert!(rt; said.as_str().contains("--outcome takes held, refused,"));
     Ok(())
 }
 

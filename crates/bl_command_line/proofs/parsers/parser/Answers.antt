@@ -1,7 +1,7 @@
 use Rattle.std.proofs.Common.{◌≡◌, ◌∙◌, ap, true}
 use Rattle.clap.specs.Words.{App, app_of, with_subcommand}
 use Rattle.clap.specs.Simple.{on_top}
-use Rattle.bl_command_line.specs.CommandLine.{alone_app, audit_app, check_app, explain_app, recover_app, replay_app, root_app, serve_app, state_app, tell_app}
+use Rattle.bl_command_line.specs.CommandLine.{alone_app, audit_app, check_app, explain_app, recover_app, replay_app, report_app, root_app, serve_app, state_app, tell_app}
 use Rattle.bl_command_line.proofs.Rules.{added_last}
 use Rattle.bl_command_line.proofs.parsers.parser.Goals as goal
 
@@ -18,4 +18,5 @@ returns c =
     let check = c.in_ok-parser-6.ensures check_app c.check_parser.ensures ∙ ap (λ (app : App). with_subcommand app check_app.top) state in
     let explain = c.in_ok-parser-7.ensures explain_app c.explain_parser.ensures ∙ ap (λ (app : App). with_subcommand app explain_app.top) check in
     let audit = c.in_ok-parser-8.ensures audit_app c.audit_parser.ensures ∙ ap (λ (app : App). with_subcommand app audit_app.top) explain in
-    added_last _ _ _ tell_app audit (c.with_command-9.ensures tell_app c.tell_parser.ensures)
+    let report = c.in_ok-parser-9.ensures report_app c.report_parser.ensures ∙ ap (λ (app : App). with_subcommand app report_app.top) audit in
+    added_last _ _ _ tell_app report (c.with_command-10.ensures tell_app c.tell_parser.ensures)

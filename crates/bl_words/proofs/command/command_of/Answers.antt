@@ -41,6 +41,11 @@ returns-in-audit-clause-none c =
     entered_none c.args.found.now c.in-Some.options.now c.in-Some.name.now _ c.in-Some.ensures.name c.in-Some.ensures.rows c.in-audit.is
     c.audit_of.result c.audit_of.ensures.none
 
+pub returns-in-report-clause-none : goal.returns-in-report-clause-none
+returns-in-report-clause-none c =
+    entered_none c.args.found.now c.in-Some.options.now c.in-Some.name.now _ c.in-Some.ensures.name c.in-Some.ensures.rows c.in-report.is
+    c.report_with.result c.report_with.ensures.none
+
 pub returns-in-tell-clause-none : goal.returns-in-tell-clause-none
 returns-in-tell-clause-none c =
     entered_none c.args.found.now c.in-Some.options.now c.in-Some.name.now _ c.in-Some.ensures.name c.in-Some.ensures.rows c.in-tell.is
