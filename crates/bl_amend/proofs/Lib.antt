@@ -1,0 +1,10 @@
+pub mod Rebuilding
+pub mod Whole
+pub mod OneAnswer
+pub mod Kept
+pub mod SameNames
+pub mod Changing
+pub mod Reading
+pub mod Drafting
+pub mod Refusing
+pub mod Finishing

@@ -1,0 +1,3 @@
+pub mod Amendment
+pub mod Faults
+pub mod Draft
