@@ -1,0 +1,10 @@
+//! What a trail tells people: who held what when, by which right, what was refused and what was changed.
+//!
+//!     item     what is told of each event
+//!     report   the report of a trail
+//!     laws     that what is told is so, and that nothing is left out
+#![tactic(auto)]
+
+pub mod item;
+pub mod laws;
+pub mod report;
