@@ -5,7 +5,7 @@ use Rattle.bl_setup.specs.Setup.{Setup}
 use Rattle.bl_standing.specs.Standing.{StandsAtEnd}
 use Rattle.bl_folder.specs.Names.{trail_of, trail_part_of}
 use Rattle.bl_folder.specs.Standing.{Contents}
-use Rattle.bl_chain.specs.AtHand.{BeginsWith, HasTrail, IsLeftBehind, IsLooked}
+use Rattle.bl_chain.specs.AtHand.{HasTrail, IsFound, IsLeftBehind, StandsWith}
 use Rattle.bl_chain.specs.Setups.{IsSetupOf}
 use Rattle.bl_chain.specs.Faulty.{IsUnclosed}
 use Rattle.bl_chain.specs.Refused.{HasNoGap, IsOpen, IsOverrun, IsUnclosedRun, IsUnpassed, whole_lines}
@@ -74,11 +74,11 @@ module _ (there : Contents) where
         omega (arith, no)
 
   module _ (looked : Looked) where
-    begins-at : (run : ℕ) (setup : Setup) (lag : Lag) → looked.run ≡ run → looked.setup ≡ setup → looked.lag ≡ lag → BeginsWith there lag run setup
-        → BeginsWith there looked.lag looked.run looked.setup
+    begins-at : (run : ℕ) (setup : Setup) (lag : Lag) → looked.run ≡ run → looked.setup ≡ setup → looked.lag ≡ lag → StandsWith there lag run setup
+        → StandsWith there looked.lag looked.run looked.setup
     begins-at run setup lag r s l begins =
-        subst (λ k. BeginsWith there k looked.run looked.setup) (sym l)
-        (subst (λ q. BeginsWith there lag q looked.setup) (sym r) (subst (λ t. BeginsWith there lag run t) (sym s) begins))
+        subst (λ k. StandsWith there k looked.run looked.setup) (sym l)
+        (subst (λ q. StandsWith there lag q looked.setup) (sym r) (subst (λ t. StandsWith there lag run t) (sym s) begins))
 
     journal-at : (run : ℕ) (begun : Bool) → looked.run ≡ run → looked.is_begun ≡ begun → (IsTrue begun ↔ IsSome (there (trail_part_of run)))
         → IsTrue looked.is_begun ↔ IsSome (there (trail_part_of looked.run))
@@ -86,7 +86,7 @@ module _ (there : Contents) where
         subst (λ q. IsTrue looked.is_begun ↔ IsSome (there (trail_part_of q))) (sym r) (subst (λ t. IsTrue t ↔ IsSome (there (trail_part_of run))) (sym b) is)
 
     pub opened : (run : ℕ) (setup : Setup) (begun : Bool) → looked.run ≡ run → looked.setup ≡ setup → looked.lag ≡ Nothing → looked.is_begun ≡ begun
-        → IsOpen there run setup → IsUnpassed there run → (IsTrue begun ↔ IsSome (there (trail_part_of run))) → IsLooked there looked
+        → IsOpen there run setup → IsUnpassed there run → (IsTrue begun ↔ IsSome (there (trail_part_of run))) → IsFound there looked
     opened run setup begun r s l b open_run unpassed journal =
         record { begins = begins-at run setup Nothing r s l (open_run, unpassed); journal = journal-at run begun r b journal }
 
@@ -102,7 +102,7 @@ module _ (there : Contents) where
 
     pub behind-name : (last : ℕ) (from left : Setup) (trail : List ℕ) (next : Option ℕ) → looked.run ≡ suc last → looked.setup ≡ left → looked.lag ≡ Name
         → looked.is_begun ≡ is_some next → HasNoGap there last → IsSetupOf there last from → there (trail_of last) ≡ None → there (trail_part_of last) ≡ Some trail
-        → StandsAtEnd from trail left → next ≡ option_map whole_lines (there (trail_part_of (suc last))) → IsLooked there looked
+        → StandsAtEnd from trail left → next ≡ option_map whole_lines (there (trail_part_of (suc last))) → IsFound there looked
     behind-name last from left trail next r s l b gapless begun unnamed has stands lines = record {
       begins = begins-at (suc last) left Name r s l (left-behind last from left trail Name gapless begun (unnamed, has) stands);
       journal = journal-by last next r b lines;
@@ -110,7 +110,7 @@ module _ (there : Contents) where
 
     pub behind-next : (last : ℕ) (from left : Setup) (trail : List ℕ) (next : Option ℕ) → looked.run ≡ suc last → looked.setup ≡ left → looked.lag ≡ NextSetup
         → looked.is_begun ≡ is_some next → HasNoGap there last → IsSetupOf there last from → there (trail_of last) ≡ Some trail
-        → StandsAtEnd from trail left → next ≡ option_map whole_lines (there (trail_part_of (suc last))) → IsLooked there looked
+        → StandsAtEnd from trail left → next ≡ option_map whole_lines (there (trail_part_of (suc last))) → IsFound there looked
     behind-next last from left trail next r s l b gapless begun has stands lines = record {
       begins = begins-at (suc last) left NextSetup r s l (left-behind last from left trail NextSetup gapless begun has stands);
       journal = journal-by last next r b lines;

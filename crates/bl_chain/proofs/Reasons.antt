@@ -25,7 +25,7 @@ no-setups-refused there fault (inl none) = subst (λ f. IsRefused there f) (sym 
 no-setups-refused there fault (inr call) = of-call fault call there
 
 -- whether a fault is that of memory
-decide : (kind : SetupFaultKind) → (kind ≡ kinds.Memory) ⊎ (kind ≡ kinds.Memory → ⊥)
+pub decide : (kind : SetupFaultKind) → (kind ≡ kinds.Memory) ⊎ (kind ≡ kinds.Memory → ⊥)
 decide kinds.Memory = inl refl
 decide kinds.Syntax = inr (λ e. cc)
 decide kinds.Unknown = inr (λ e. cc)

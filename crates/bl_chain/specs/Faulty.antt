@@ -13,7 +13,7 @@ use Rattle.bl_folder.specs.Names.{setup_of, trail_of}
 use Rattle.bl_folder.specs.Standing.{Contents}
 use Rattle.bl_chain.specs.declared.fault.ChainFault.{ChainFault}
 use Rattle.bl_chain.specs.declared.fault.ChainFault.TheVariants.{NoChain, InUse, Broken, Wrong, OldVersion, NotEnded}
-use Rattle.bl_chain.specs.declared.fault.ChainFault.TheVariants.{OtherSetup, NoSetup, NoRun, OtherDigest, Folder, TooMany, Memory}
+use Rattle.bl_chain.specs.declared.fault.ChainFault.TheVariants.{OtherSetup, NoSetup, NoAmendment, NoRun, OtherDigest, Folder, TooMany, Memory}
 
 -- why the text of a trail leaves no setup for another run
 abbrev pub IsOld : Setup → List ℕ → Type 0
@@ -36,6 +36,7 @@ IsNotLeft run setup text (OldVersion of) = (of ≡ run) × IsOld setup text
 IsNotLeft run setup text (NotEnded of) = (of ≡ run) × IsUnended setup text
 IsNotLeft run setup text (OtherSetup other) = ⊥
 IsNotLeft run setup text (NoSetup other fault) = ⊥
+IsNotLeft run setup text (NoAmendment other fault) = ⊥
 IsNotLeft run setup text (NoRun other) = ⊥
 IsNotLeft run setup text (OtherDigest other) = ⊥
 IsNotLeft run setup text (Folder fault) = ⊥

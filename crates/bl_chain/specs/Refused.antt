@@ -3,11 +3,16 @@ use Rattle.std.specs.Prelude.{◌≡◌, ◌⊎◌, ◌==◌, ℕ, suc, ◌≤�
 use Rattle.bl_setup.specs.Setup.{Setup}
 use Rattle.bl_folder.specs.Names.{setup_of, trail_of, trail_part_of}
 use Rattle.bl_folder.specs.Standing.{Contents}
+use Rattle.bl_declare.specs.declared.fault.SetupFault.{SetupFault}
+use Rattle.bl_standing.specs.Standing.{StandsAtEnd}
+use Rattle.bl_chain.specs.Amended.{HasNoAmendment}
 use Rattle.bl_chain.specs.Setups.{IsFirst, IsSetupOf}
+use Rattle.bl_chain.specs.declared.look.Lag.{Lag}
+use Rattle.bl_chain.specs.declared.look.Lag.TheVariants.{Nothing, NextSetup, Name}
 use Rattle.bl_chain.specs.Faulty.{HasNoSetup, IsGap, IsUnclosed}
 use Rattle.bl_chain.specs.declared.fault.ChainFault.{ChainFault}
 use Rattle.bl_chain.specs.declared.fault.ChainFault.TheVariants.{NoChain, InUse, Broken, Wrong, OldVersion, NotEnded}
-use Rattle.bl_chain.specs.declared.fault.ChainFault.TheVariants.{OtherSetup, NoSetup, NoRun, OtherDigest, Folder, TooMany, Memory}
+use Rattle.bl_chain.specs.declared.fault.ChainFault.TheVariants.{OtherSetup, NoSetup, NoAmendment, NoRun, OtherDigest, Folder, TooMany, Memory}
 
 -- how many whole lines are in a text
 abbrev pub whole_lines : List ℕ → ℕ
@@ -33,6 +38,23 @@ pub record HasNoGap (there : Contents) (last : ℕ) : Type 0 where
   pub is_first : IsFirst there first
   pub unbroken : IsUnbroken there first last
   pub none : (run : ℕ) → last < run → there (trail_of run) ≡ None
+
+-- the text of a closed run's trail has its name; or that of its journal still, and none has its own
+abbrev pub HasTrail : Contents → ℕ → Lag → List ℕ → Type 0
+HasTrail there run Nothing text = ⊥
+HasTrail there run NextSetup text = there (trail_of run) ≡ Some text
+HasTrail there run Name text = (there (trail_of run) ≡ None) × (there (trail_part_of run) ≡ Some text)
+
+-- the run of the highest setup is closed, and this is what it left
+pub record IsLeftBehind (there : Contents) (lag : Lag) (run : ℕ) (setup : Setup) : Type 0 where
+  pub last : ℕ
+  pub gapless : HasNoGap there last
+  pub next : run ≡ suc last
+  pub from : Setup
+  pub begun : IsSetupOf there last from
+  pub trail : List ℕ
+  pub has : HasTrail there last lag trail
+  pub stands : StandsAtEnd from trail setup
 
 -- The run of the highest setup is not closed: no trail has its name, and its journal, where it is there, does not close
 -- it.
@@ -62,6 +84,13 @@ pub record IsOverrun (there : Contents) (run : ℕ) : Type 0 where
   pub has : there (trail_part_of (suc run)) ≡ Some text
   pub lines : 2 < whole_lines text
 
+-- the amendment of a run is there, and is none over what the run before left
+pub record IsUnamended (there : Contents) (run : ℕ) (fault : SetupFault) : Type 0 where
+  pub lag : Lag
+  pub left : Setup
+  pub behind : IsLeftBehind there lag run left
+  pub why : HasNoAmendment there run left fault
+
 -- the highest setup is that of the last run that there may be
 abbrev pub IsFull : Contents → Type 0
 IsFull there = (last : ℕ) × IsLast there last × (999999999 ≤ last)
@@ -76,6 +105,7 @@ IsRefused there (OldVersion run) = ⊥
 IsRefused there (NotEnded run) = ⊥
 IsRefused there (OtherSetup run) = ⊥
 IsRefused there (NoSetup run fault) = HasNoSetup there run fault
+IsRefused there (NoAmendment run fault) = IsUnamended there run fault
 IsRefused there (NoRun run) = ⊥
 IsRefused there (OtherDigest run) = ⊥
 IsRefused there (Folder fault) = Unit {0}

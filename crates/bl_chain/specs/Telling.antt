@@ -2,7 +2,7 @@
 use Rattle.std.specs.Prelude.{ℕ, ◌-◌, List, ◌++◌, codes, decimal}
 use Rattle.bl_chain.specs.declared.fault.ChainFault.{ChainFault}
 use Rattle.bl_chain.specs.declared.fault.ChainFault.TheVariants.{NoChain, InUse, Broken, Wrong, OldVersion, NotEnded}
-use Rattle.bl_chain.specs.declared.fault.ChainFault.TheVariants.{OtherSetup, NoSetup, NoRun, OtherDigest, Folder, TooMany, Memory}
+use Rattle.bl_chain.specs.declared.fault.ChainFault.TheVariants.{OtherSetup, NoSetup, NoAmendment, NoRun, OtherDigest, Folder, TooMany, Memory}
 
 -- a number between two texts
 abbrev pub numbered : List ℕ → ℕ → List ℕ → List ℕ
@@ -22,6 +22,7 @@ chain_words folder (OldVersion run) = numbered (codes "run ") run (codes ": trai
 chain_words folder (NotEnded run) = numbered (codes "run ") run (codes ": not ended")
 chain_words folder (OtherSetup run) = numbered (codes "run ") run (codes ": not what run ") ++ numbered (codes "") (run - 1) (codes " left")
 chain_words folder (NoSetup run fault) = at_line run (codes ": setup wrong at line ") fault.line
+chain_words folder (NoAmendment run fault) = at_line run (codes ": amendment wrong at line ") fault.line
 chain_words folder (NoRun run) = numbered (codes "run ") run (codes ": no setup")
 chain_words folder (OtherDigest run) = numbered (codes "run ") run (codes ": another setup")
 chain_words folder (Folder fault) = codes "cannot use " ++ folder
@@ -42,6 +43,7 @@ start_status (OldVersion run) = 3
 start_status (NotEnded run) = 3
 start_status (OtherSetup run) = 3
 start_status (NoSetup run fault) = 3
+start_status (NoAmendment run fault) = 3
 start_status (NoRun run) = 3
 start_status (OtherDigest run) = 3
 start_status (Folder fault) = 3
@@ -57,6 +59,7 @@ audit_status (OldVersion run) = 1
 audit_status (NotEnded run) = 1
 audit_status (OtherSetup run) = 1
 audit_status (NoSetup run fault) = 1
+audit_status (NoAmendment run fault) = 1
 audit_status (NoRun run) = 1
 audit_status (OtherDigest run) = 1
 audit_status (Folder fault) = 3

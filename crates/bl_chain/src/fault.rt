@@ -27,6 +27,8 @@ pub enum ChainFault {
     OtherSetup(u32),
     /// The file of this run's setup is none.
     NoSetup { run: u32, fault: SetupFault },
+    /// The file of this run's amendment is none, over what the run before left.
+    NoAmendment { run: u32, fault: SetupFault },
     /// An audit was to begin with this run, and its setup is not there.
     NoRun(u32),
     /// An audit was to begin with this run, and its setup has another checksum than the one that was noted.

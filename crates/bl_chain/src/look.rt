@@ -1,12 +1,13 @@
 //! What stands in a folder of the run at hand. Nothing is written.
 ghost use Rattle.std.specs.Prelude.{◌≡◌, ◌↔◌, ◌<◌, suc, false, IfErr, IfOk, IsSome, IsTrue, MatchOption, None, OnOk, Some};
 ghost use Rattle.std.specs.Prelude.{option_map};
-ghost use Rattle.bl_chain.specs.AtHand.{HasJournalAlone, IsJudged, IsLooked, judged_setup};
+ghost use Rattle.bl_chain.specs.AtHand.{HasJournalAlone, IsFound, IsJudged, IsLooked, judged_setup};
 ghost use Rattle.bl_chain.specs.Refused.{HasNoGap, IsOpen, IsRefused, whole_lines};
 ghost use Rattle.bl_folder.specs.Names.{trail_of, trail_part_of};
 ghost use Rattle.bl_folder.specs.Standing.{Contents, Standing};
 ghost use Rattle.bl_state.specs.Whole.{IsWhole};
 
+use crate::amended::amended;
 use crate::fault::ChainFault;
 use crate::gap::last_run;
 use crate::left::closed_by;
@@ -123,7 +124,7 @@ fn judge<D: Device, F: Folder<D>>(
 fn opened(run: u32, setup: Setup, next: Option<usize>, is_begun: bool) -> Result<Looked, ChainFault>
     ensures looked { IfOk result (λ looked. (there : Contents) → IsOpen there run setup
         → next ≡ option_map whole_lines (there (trail_part_of (suc run)))
-        → (IsTrue is_begun ↔ IsSome (there (trail_part_of run))) → IsLooked there looked) }
+        → (IsTrue is_begun ↔ IsSome (there (trail_part_of run))) → IsFound there looked) }
     ensures setup { IfOk result (λ looked. looked.setup ≡ setup) }
     ensures fault { IfErr result (λ fault. (there : Contents) → IsOpen there run setup
         → next ≡ option_map whole_lines (there (trail_part_of (suc run))) → IsRefused there fault) }
@@ -152,7 +153,7 @@ fn look_named<D: Device, F: Folder<D>>(
     ensures same { (before : Standing) → F.stands folder.old before → F.stands folder.new before }
     ensures looked { IfOk result (λ looked. (before : Standing) → F.stands folder.old before
         → HasNoGap before.seen last → before.seen (trail_of last) ≡ Some text.now
-        → next ≡ option_map whole_lines (before.seen (trail_part_of (suc last))) → IsLooked before.seen looked) }
+        → next ≡ option_map whole_lines (before.seen (trail_part_of (suc last))) → IsFound before.seen looked) }
     ensures whole { IfOk result (λ looked. IsWhole looked.setup) }
     ensures fault { IfErr result (λ fault. (before : Standing) → F.stands folder.old before → HasNoGap before.seen last
         → before.seen (trail_of last) ≡ Some text.now → IsRefused before.seen fault) }
@@ -183,7 +184,7 @@ fn look_begun<D: Device, F: Folder<D>>(
     ensures same { (before : Standing) → F.stands folder.old before → F.stands folder.new before }
     ensures looked { IfOk result (λ looked. (before : Standing) → F.stands folder.old before
         → HasNoGap before.seen last → HasJournalAlone before.seen last text.now
-        → next ≡ option_map whole_lines (before.seen (trail_part_of (suc last))) → IsLooked before.seen looked) }
+        → next ≡ option_map whole_lines (before.seen (trail_part_of (suc last))) → IsFound before.seen looked) }
     ensures whole { IfOk result (λ looked. IsWhole looked.setup) }
     ensures fault { IfErr result (λ fault. (before : Standing) → F.stands folder.old before
         → HasNoGap before.seen last → HasJournalAlone before.seen last text.now
@@ -211,7 +212,7 @@ fn look_open<D: Device, F: Folder<D>>(
     ensures same { (before : Standing) → F.stands folder.old before → F.stands folder.new before }
     ensures looked { IfOk result (λ looked. (before : Standing) → F.stands folder.old before
         → HasNoGap before.seen last → before.seen (trail_of last) ≡ None
-        → next ≡ option_map whole_lines (before.seen (trail_part_of (suc last))) → IsLooked before.seen looked) }
+        → next ≡ option_map whole_lines (before.seen (trail_part_of (suc last))) → IsFound before.seen looked) }
     ensures whole { IfOk result (λ looked. IsWhole looked.setup) }
     ensures fault { IfErr result (λ fault. (before : Standing) → F.stands folder.old before
         → HasNoGap before.seen last → before.seen (trail_of last) ≡ None
@@ -225,17 +226,12 @@ fn look_open<D: Device, F: Folder<D>>(
     look_begun::<D, F>(alloc, folder, last, next, &text)
 }
 
-/// The run at hand, by what stands in a folder, which stays as it is: that of the highest setup, where it is not closed; else
-/// the next one, over what that run left.
-///
-/// `NoChain` comes where no setup is there. `Broken` comes where a setup or a trail of a run before the highest setup is
-/// missing, where there is a trail behind that, where the trail of its run does not close it, or where the next run was begun
-/// before that. `NoSetup` comes where the highest setup is none, `TooMany` where no number is left; `Folder`, `InUse` and `Memory`
-/// where a call was refused.
-pub fn look<D: Device, F: Folder<D>>(alloc: Global, folder: &mut F) -> Result<Looked, ChainFault>
+/// The run at hand, by what stands in a folder, before an amendment: that of the highest setup, where it is not closed; else
+/// the next one, over what that run left. The folder stays as it is.
+fn found<D: Device, F: Folder<D>>(alloc: Global, folder: &mut F) -> Result<Looked, ChainFault>
     ensures same { (before : Standing) → F.stands folder.old before → F.stands folder.new before }
     ensures looked { IfOk result (λ looked. (before : Standing) → F.stands folder.old before
-        → IsLooked before.seen looked) }
+        → IsFound before.seen looked) }
     ensures whole { IfOk result (λ looked. IsWhole looked.setup) }
     ensures fault { IfErr result (λ fault. (before : Standing) → F.stands folder.old before
         → IsRefused before.seen fault) }
@@ -247,4 +243,38 @@ pub fn look<D: Device, F: Folder<D>>(alloc: Global, folder: &mut F) -> Result<Lo
         return look_open::<D, F>(alloc, folder, last, next);
     };
     look_named::<D, F>(alloc, folder, last, next, &text)
+}
+
+/// The run at hand, by what stands in a folder, which stays as it is: that of the highest setup, where it is not closed; else
+/// the next one, over what that run left, amended where an amendment of it is there.
+///
+/// `NoChain` comes where no setup is there. `Broken` comes where a setup or a trail of a run before the highest setup is
+/// missing, where there is a trail behind that, where the trail of its run does not close it, or where the next run was begun
+/// before that. `NoSetup` comes where the highest setup is none, `NoAmendment` where the amendment is, `TooMany` where no number is left; `Folder`, `InUse` and `Memory`
+/// where a call was refused.
+pub fn look<D: Device, F: Folder<D>>(alloc: Global, folder: &mut F) -> Result<Looked, ChainFault>
+    ensures same { (before : Standing) → F.stands folder.old before → F.stands folder.new before }
+    ensures looked { IfOk result (λ looked. (before : Standing) → F.stands folder.old before
+        → IsLooked before.seen looked) }
+    ensures whole { IfOk result (λ looked. IsWhole looked.setup) }
+    ensures fault { IfErr result (λ fault. (before : Standing) → F.stands folder.old before
+        → IsRefused before.seen fault) }
+{
+    let looked = found::<D, F>(alloc, folder)?;
+    if looked.lag == Lag::Nothing {
+        return Ok(looked);
+    }
+    let Looked {
+        run,
+        setup,
+        lag,
+        is_begun,
+    } = looked;
+    let setup = amended::<D, F>(alloc, folder, run, setup)?;
+    Ok(Looked {
+        run,
+        setup,
+        lag,
+        is_begun,
+    })
 }

@@ -66,6 +66,10 @@ fn put_words<E: Write>(errors: &mut Watched<E>, folder: &str, fault: &ChainFault
             let line = u64::from(fault.line);
             put_at_line(errors, *run, b": setup wrong at line ", line);
         }
+        ChainFault::NoAmendment { run, fault } => {
+            let line = u64::from(fault.line);
+            put_at_line(errors, *run, b": amendment wrong at line ", line);
+        }
         ChainFault::NoRun(run) => put_number_between(errors, b"run ", *run, b": no setup"),
         ChainFault::OtherDigest(run) => {
             put_number_between(errors, b"run ", *run, b": another setup");
@@ -103,6 +107,7 @@ pub fn start_status(fault: &ChainFault) -> u8
         | ChainFault::NotEnded(_)
         | ChainFault::OtherSetup(_)
         | ChainFault::NoSetup { .. }
+        | ChainFault::NoAmendment { .. }
         | ChainFault::NoRun(_)
         | ChainFault::OtherDigest(_)
         | ChainFault::Folder(_)
@@ -123,6 +128,7 @@ pub fn audit_status(fault: &ChainFault) -> u8
         | ChainFault::NotEnded(_)
         | ChainFault::OtherSetup(_)
         | ChainFault::NoSetup { .. }
+        | ChainFault::NoAmendment { .. }
         | ChainFault::NoRun(_)
         | ChainFault::OtherDigest(_) => 1,
         ChainFault::NoChain | ChainFault::InUse | ChainFault::Folder(_) | ChainFault::TooMany => 3,

@@ -8,7 +8,7 @@ use Rattle.bl_folder.specs.Standing.{Contents}
 use Rattle.bl_chain.specs.Faulty.{IsNotLeft, IsUnended}
 use Rattle.bl_chain.specs.declared.fault.ChainFault.{ChainFault}
 use Rattle.bl_chain.specs.declared.fault.ChainFault.TheVariants.{NoChain, InUse, Broken, Wrong, OldVersion, NotEnded}
-use Rattle.bl_chain.specs.declared.fault.ChainFault.TheVariants.{OtherSetup, NoSetup, NoRun, OtherDigest, Folder, TooMany, Memory}
+use Rattle.bl_chain.specs.declared.fault.ChainFault.TheVariants.{OtherSetup, NoSetup, NoAmendment, NoRun, OtherDigest, Folder, TooMany, Memory}
 use Rattle.bl_trail.specs.Asks.{HasNo, before, behind}
 use Rattle.bl_trail.specs.Follow.{IsLine}
 use Rattle.bl_trail.specs.TrueText.{FirstWrong}
@@ -87,6 +87,7 @@ not-closed setup text run right (OldVersion of) why = (why.0, inl why.1)
 not-closed setup text run right (NotEnded of) why = why
 not-closed setup text run right (OtherSetup other) why = absurd why
 not-closed setup text run right (NoSetup other fault) why = absurd why
+not-closed setup text run right (NoAmendment other fault) why = absurd why
 not-closed setup text run right (NoRun other) why = absurd why
 not-closed setup text run right (OtherDigest other) why = absurd why
 not-closed setup text run right (Folder fault) why = absurd why
@@ -113,6 +114,7 @@ module _ (there : Contents) (run : ℕ) (setup : Setup) (text : List ℕ) (has :
     unfit (NotEnded of) why = inr (wrong of IsUnended why.0 why.1)
     unfit (OtherSetup other) why = absurd why
     unfit (NoSetup other fault) why = absurd why
+    unfit (NoAmendment other fault) why = absurd why
     unfit (NoRun other) why = absurd why
     unfit (OtherDigest other) why = absurd why
     unfit (Folder fault) why = tt

@@ -3,3 +3,4 @@ pub mod Steps
 pub mod Reasons
 pub mod Journals
 pub mod Passing
+pub mod Plainly

@@ -9,7 +9,7 @@ use Rattle.bl_state.specs.Whole.{IsWhole}
 use Rattle.bl_folder.specs.Names.{trail_of}
 use Rattle.bl_folder.specs.Standing.{Contents}
 use Rattle.bl_chain.specs.Setups.{IsSetupOf}
-use Rattle.bl_chain_audit.specs.Closed.{AreClosed, AreClosedBefore, IsClosedRun, IsPassedOn}
+use Rattle.bl_chain_audit.specs.Closed.{AreClosed, AreClosedBefore, HandsOn, IsPassedOn}
 use Rattle.bl_chain_audit.specs.declared.noted.NotedRun.{NotedRun}
 
 abbrev bytes-in : Option (List ℕ) → List ℕ
@@ -49,7 +49,7 @@ module _ (there : Contents) (first : ℕ) (from left : Setup) (n : ℕ) (closed 
       let next : (first + n) + suc m ≡ first + suc (n + m) = omega arith in
       let count : suc (n + m) ≡ n + suc m = omega arith in
       subst (λ k. AreClosed there first from k stood) count
-      (more.0, behind m more.0 more.1, subst (λ r. IsClosedRun there r more.0 stood) run more.2, subst (λ r. IsPassedOn there r stood) next more.3)
+      (more.0, behind m more.0 more.1, subst (λ r. HandsOn there r more.0 stood) run more.2, subst (λ r. IsPassedOn there r stood) next more.3)
 
 module _ (there : Contents) (one : (most : ℕ) (bytes : List ℕ) → HasOneAnswer most bytes)
     (reads : (setup : Setup) → IsWhole setup → IsSetupWithin most_text_bytes (setup_text setup) setup)

@@ -8,14 +8,16 @@ use Rattle.bl_folder.specs.Names.{setup_of, trail_of}
 use Rattle.bl_folder.specs.Standing.{Contents}
 use Rattle.bl_folder.specs.declared.fault.FolderFault.{FolderFault}
 use Rattle.bl_folder.specs.declared.fault.FolderFault.TheVariants as folders
+use Rattle.bl_standing.specs.Standing.{StandsAtEnd}
+use Rattle.bl_chain.specs.Amended.{IsAmendedIn}
 use Rattle.bl_chain.specs.Faults.{chain_fault}
 use Rattle.bl_chain.specs.Faulty.{IsGap, IsNotLeft, IsOld, IsUnended}
-use Rattle.bl_chain.specs.Unread.{HasNoSetups, IsOfCall, IsUnread}
+use Rattle.bl_chain.specs.Unread.{HasNoSetups, IsMisamended, IsOfCall, IsUnread}
 use Rattle.bl_chain.specs.declared.fault.ChainFault.{ChainFault}
 use Rattle.bl_chain.specs.declared.fault.ChainFault.TheVariants.{NoChain, InUse, Broken, Wrong, OldVersion, NotEnded}
-use Rattle.bl_chain.specs.declared.fault.ChainFault.TheVariants.{OtherSetup, NoSetup, NoRun, OtherDigest, Folder, TooMany, Memory}
+use Rattle.bl_chain.specs.declared.fault.ChainFault.TheVariants.{OtherSetup, NoSetup, NoAmendment, NoRun, OtherDigest, Folder, TooMany, Memory}
 use Rattle.bl_chain.proofs.Spans.{none-where, not-none}
-use Rattle.bl_chain_audit.specs.Closed.{AreClosedBefore, HasLater, IsAmong, IsClosedRun, IsPassedOn}
+use Rattle.bl_chain_audit.specs.Closed.{AreClosedBefore, HasLater, HandsOn, IsAmong, IsClosedRun, IsPassedOn}
 use Rattle.bl_chain_audit.specs.Noted.{HasNotedSum, IsBeginning, IsLookedAt, IsNoted}
 use Rattle.bl_chain_audit.specs.Untrue.{IsOtherSetup, IsUntrue, IsWrongRun}
 use Rattle.bl_chain_audit.specs.declared.noted.NotedRun.{NotedRun}
@@ -77,6 +79,11 @@ module _ (there : Contents) where
   pub passed-same : (run : ℕ) (left : Setup) → there (setup_of run) ≡ Some (setup_text left) → IsPassedOn there run left
   passed-same run left is = subst (λ o. MatchOption o (there (trail_of run) ≡ None) (λ text. text ≡ setup_text left)) (sym is) refl
 
+  pub hands : (run : ℕ) (stood left next : Setup) (trail : List ℕ) → there (trail_of run) ≡ Some trail → StandsAtEnd stood trail left → IsAmendedIn there (suc run) left next
+      → HandsOn there run stood next
+  hands run stood left next trail has stands amended =
+      record { left = left; closed = record { trail = trail; has = has; stands = stands }; amended = amended }
+
   module _ (noted : Option NotedRun) where
     pub before-looked-at : (run : ℕ) (stood : Setup) → AreClosedBefore there noted run stood → IsLookedAt noted run
     before-looked-at run stood before = looked-at there noted before.first run before.is_first before.up
@@ -84,10 +91,17 @@ module _ (there : Contents) where
     pub next-looked-at : (run : ℕ) (stood : Setup) → AreClosedBefore there noted run stood → IsLookedAt noted (suc run)
     next-looked-at run stood before = looked-at there noted before.first (suc run) before.is_first (let up : before.first ≤ run = before.up in omega (arith, up))
 
-    pub other-setup : (run : ℕ) (stood left : Setup) (text : List ℕ) → AreClosedBefore there noted run stood → IsClosedRun there run stood left
+    pub other-setup : (run : ℕ) (stood left : Setup) (text : List ℕ) → AreClosedBefore there noted run stood → HandsOn there run stood left
         → there (setup_of (suc run)) ≡ Some text → text ≢ setup_text left → IsOtherSetup there noted (suc run)
     other-setup run stood left text before closed has other =
-        record { last = run; is = refl; stood = stood; before = before; left = left; closed = closed; text = text; has = has; other = other }
+        record { last = run; is = refl; stood = stood; before = before; next = left; hands = closed; text = text; has = has; other = other }
+
+    -- the amendment is none
+    pub misamended : (run : ℕ) (stood left : Setup) (fault : ChainFault) → AreClosedBefore there noted run stood → IsClosedRun there run stood left
+        → IsMisamended there (suc run) left fault → IsUntrue there noted fault
+    misamended run stood left fault before closed (inl none) =
+        subst (IsUntrue there noted) (sym none.1) (record { last = run; is = refl; stood = stood; before = before; left = left; closed = closed; why = none.2 })
+    misamended run stood left fault before closed (inr call) = of-call there noted fault call
 
     -- the trail is not closed
     module _ (run : ℕ) (stood : Setup) (trail : List ℕ) (before : AreClosedBefore there noted run stood) (has : there (trail_of run) ≡ Some trail) where
@@ -103,6 +117,7 @@ module _ (there : Contents) where
       not-left (NotEnded of) why = inl (wrong of IsUnended why.0 why.1)
       not-left (OtherSetup other) why = absurd why
       not-left (NoSetup other fault) why = absurd why
+      not-left (NoAmendment other fault) why = absurd why
       not-left (NoRun other) why = absurd why
       not-left (OtherDigest other) why = absurd why
       not-left (Folder fault) why = tt

@@ -3,7 +3,7 @@ use Rattle.std.proofs.Common.{◌≡◌, ◌+◌, ◌-◌, ℕ, suc, Option, ref
 use Rattle.bl_setup.specs.Setup.{Setup}
 use Rattle.bl_folder.specs.Standing.{Contents}
 use Rattle.bl_chain.specs.Setups.{IsSetupOf}
-use Rattle.bl_chain_audit.specs.Closed.{AreClosed, AreClosedBefore, IsClosedRun, IsPassedOn}
+use Rattle.bl_chain_audit.specs.Closed.{AreClosed, AreClosedBefore, HandsOn, IsPassedOn}
 use Rattle.bl_chain_audit.specs.Noted.{HasNotedSum, IsBeginning}
 use Rattle.bl_chain_audit.specs.declared.noted.NotedRun.{NotedRun}
 
@@ -23,7 +23,7 @@ module _ (there : Contents) (noted : Option NotedRun) where
       }
 
   -- one more
-  pub one-more : (run : ℕ) (stood left : Setup) → AreClosedBefore there noted run stood → IsClosedRun there run stood left → IsPassedOn there (suc run) left → AreClosedBefore there noted (suc run) left
+  pub one-more : (run : ℕ) (stood left : Setup) → AreClosedBefore there noted run stood → HandsOn there run stood left → IsPassedOn there (suc run) left → AreClosedBefore there noted (suc run) left
   one-more run stood left before closed passed =
       let n = run - before.first in
       let at : run ≡ before.first + n = omega (arith, before.up) in
@@ -37,5 +37,5 @@ module _ (there : Contents) (noted : Option NotedRun) where
         sum = before.sum;
         up = omega (arith, before.up);
         closed = subst (λ m. AreClosed there before.first before.from m left) (sym count)
-            (stood, before.closed, subst (λ r. IsClosedRun there r stood left) at closed, subst (λ r. IsPassedOn there r left) next passed);
+            (stood, before.closed, subst (λ r. HandsOn there r stood left) at closed, subst (λ r. IsPassedOn there r left) next passed);
       }

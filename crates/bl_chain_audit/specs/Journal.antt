@@ -59,6 +59,7 @@ IsUnfit run setup text (faults.OldVersion of) = (of ≡ run) × IsOldSoFar setup
 IsUnfit run setup text (faults.NotEnded of) = (of ≡ run) × IsUnended setup text
 IsUnfit run setup text (faults.OtherSetup other) = ⊥
 IsUnfit run setup text (faults.NoSetup other fault) = ⊥
+IsUnfit run setup text (faults.NoAmendment other fault) = ⊥
 IsUnfit run setup text (faults.NoRun other) = ⊥
 IsUnfit run setup text (faults.OtherDigest other) = ⊥
 IsUnfit run setup text (faults.Folder fault) = ⊥

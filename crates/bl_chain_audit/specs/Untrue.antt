@@ -5,11 +5,13 @@ use Rattle.bl_state.specs.Texts.{setup_text}
 use Rattle.bl_trail.specs.TrueText.{FirstWrong}
 use Rattle.bl_folder.specs.Names.{setup_of, trail_of, trail_part_of}
 use Rattle.bl_folder.specs.Standing.{Contents}
+use Rattle.bl_declare.specs.declared.fault.SetupFault.{SetupFault}
+use Rattle.bl_chain.specs.Amended.{HasNoAmendment}
 use Rattle.bl_chain.specs.Faulty.{HasNoSetup, IsGap, IsOld, IsUnended}
 use Rattle.bl_chain.specs.declared.fault.ChainFault.{ChainFault}
 use Rattle.bl_chain.specs.declared.fault.ChainFault.TheVariants.{NoChain, InUse, Broken, Wrong, OldVersion, NotEnded}
-use Rattle.bl_chain.specs.declared.fault.ChainFault.TheVariants.{OtherSetup, NoSetup, NoRun, OtherDigest, Folder, TooMany, Memory}
-use Rattle.bl_chain_audit.specs.Closed.{AreClosedBefore, IsClosedRun}
+use Rattle.bl_chain.specs.declared.fault.ChainFault.TheVariants.{OtherSetup, NoSetup, NoAmendment, NoRun, OtherDigest, Folder, TooMany, Memory}
+use Rattle.bl_chain_audit.specs.Closed.{AreClosedBefore, HandsOn, IsClosedRun}
 use Rattle.bl_chain_audit.specs.Journal.{IsOldSoFar, IsWrongSoFar}
 use Rattle.bl_chain_audit.specs.Noted.{HasOtherSum, IsBeginning, IsLookedAt, IsNoted}
 use Rattle.bl_chain_audit.specs.declared.noted.NotedRun.{NotedRun}
@@ -31,17 +33,27 @@ pub record IsWrongJournal (there : Contents) (noted : Option NotedRun) (run : �
   pub has : there (trail_part_of run) ≡ Some text
   pub why : Why stood text
 
--- all before the run is true, and its setup is not what the run before left
-pub record IsOtherSetup (there : Contents) (noted : Option NotedRun) (run : ℕ) : Type 0 where
+-- all before the run is true, and its amendment is none over what the run before left
+pub record IsWrongAmendment (there : Contents) (noted : Option NotedRun) (run : ℕ) (fault : SetupFault) : Type 0 where
   pub last : ℕ
   pub is : run ≡ suc last
   pub stood : Setup
   pub before : AreClosedBefore there noted last stood
   pub left : Setup
   pub closed : IsClosedRun there last stood left
+  pub why : HasNoAmendment there run left fault
+
+-- all before the run is true, and its setup is not what the run before handed on
+pub record IsOtherSetup (there : Contents) (noted : Option NotedRun) (run : ℕ) : Type 0 where
+  pub last : ℕ
+  pub is : run ≡ suc last
+  pub stood : Setup
+  pub before : AreClosedBefore there noted last stood
+  pub next : Setup
+  pub hands : HandsOn there last stood next
   pub text : List ℕ
   pub has : there (setup_of run) ≡ Some text
-  pub other : text ≢ setup_text left
+  pub other : text ≢ setup_text next
 
 -- why the closed runs of a folder, from the noted one on, are not true, or the journal behind them is not right so far
 abbrev pub IsUntrue : Contents → Option NotedRun → ChainFault → Type 0
@@ -54,6 +66,7 @@ IsUntrue there noted (OldVersion run) = IsWrongRun there noted run IsOld ⊎ IsW
 IsUntrue there noted (NotEnded run) = IsWrongRun there noted run IsUnended ⊎ IsWrongJournal there noted run IsUnended
 IsUntrue there noted (OtherSetup run) = IsOtherSetup there noted run
 IsUntrue there noted (NoSetup run fault) = IsBeginning there noted run × HasNoSetup there run fault
+IsUntrue there noted (NoAmendment run fault) = IsWrongAmendment there noted run fault
 IsUntrue there noted (NoRun run) = IsNoted noted run × (there (setup_of run) ≡ None)
 IsUntrue there noted (OtherDigest run) = IsNoted noted run × HasOtherSum there noted run
 IsUntrue there noted (Folder fault) = Unit {0}

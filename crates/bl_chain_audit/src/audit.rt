@@ -11,6 +11,7 @@ ghost use Rattle.bl_state.specs.Whole.{IsWhole};
 
 use crate::journal::{FoundJournal, journal_in};
 use crate::noted::{NotedRun, begin, first_run};
+use bl_chain::amended::amended;
 use bl_chain::fault::ChainFault;
 use bl_chain::left::left_after;
 use bl_chain::setup::{MOST_SETUP_BYTES, MOST_TRAIL_BYTES, bytes_in, setups_in, span_in};
@@ -115,8 +116,9 @@ fn next_in<D: Device, F: Folder<D>>(
     Ok(NextSetup::Other)
 }
 
-/// What the closed run of this number left, over what the run before left. The setup of the next run is that, or is not
-/// written yet where this run is the last before the end. The folder stays as it is.
+/// What the closed run of this number hands on, over what the run before did: what it left, amended where an amendment of
+/// the next run is there. The setup of the next run is that, or is not written yet where this run is the last before the end.
+/// The folder stays as it is.
 fn audit_run<D: Device, F: Folder<D>>(
     alloc: Global,
     folder: &mut F,
@@ -127,8 +129,8 @@ fn audit_run<D: Device, F: Folder<D>>(
     requires whole { IsWhole stood.now }
     requires before { run < end }
     ensures same { (before : Standing) → F.stands folder.old before → F.stands folder.new before }
-    ensures closed { IfOk result (λ left. (before : Standing) → F.stands folder.old before
-        → IsAmong before.seen run end → IsClosedOver before.seen run stood.now left) }
+    ensures closed { IfOk result (λ next. (before : Standing) → F.stands folder.old before
+        → IsAmong before.seen run end → IsClosedOver before.seen run stood.now next) }
     ensures whole { IfOk result IsWhole }
     ensures fault { IfErr result (λ fault. (before : Standing) (noted : Option AnyNotedRun) → F.stands folder.old before
         → IsAmong before.seen run end → AreClosedBefore before.seen noted run stood.now
@@ -141,21 +143,22 @@ fn audit_run<D: Device, F: Folder<D>>(
     let left = left_after(alloc, run, stood, &text)?;
     drop(text);
     let next = run + 1;
-    match next_in::<D, F>(alloc, folder, next, &left) {
-        Ok(NextSetup::Same) => Ok(left),
+    let handed = amended::<D, F>(alloc, folder, next, left)?;
+    match next_in::<D, F>(alloc, folder, next, &handed) {
+        Ok(NextSetup::Same) => Ok(handed),
         Ok(NextSetup::Unwritten) => {
             if next == end {
-                return Ok(left);
+                return Ok(handed);
             }
-            drop(left);
+            drop(handed);
             Err(ChainFault::Broken(next))
         }
         Ok(NextSetup::Other) => {
-            drop(left);
+            drop(handed);
             Err(ChainFault::OtherSetup(next))
         }
         Err(fault) => {
-            drop(left);
+            drop(handed);
             Err(fault)
         }
     }

@@ -1,7 +1,7 @@
 //! What holds of a chain whose closed runs are true.
-ghost use Rattle.std.specs.Prelude.{◌≡◌, ℕ, Option, Some};
+ghost use Rattle.std.specs.Prelude.{◌≡◌, ◌↔◌, ℕ, Option, Some};
 ghost use Rattle.bl_chain.specs.Setups.{IsSetupOf};
-ghost use Rattle.bl_chain_audit.specs.Closed.{AreClosedBefore};
+ghost use Rattle.bl_chain_audit.specs.Closed.{AreClosed, AreClosedBefore, AreClosedPlainly, HasNoAmendments};
 ghost use Rattle.bl_chain_audit.specs.declared.noted.NotedRun.{NotedRun};
 ghost use Rattle.bl_folder.specs.Standing.{Contents};
 ghost use Rattle.bl_setup.specs.Setup.{Setup};
@@ -29,3 +29,9 @@ pub fn audits_go_on()
     a_text_has_one_answer();
     written_setups_read_again();
 }
+
+/// Where no amendment is there, runs are closed each over just what the one before left.
+pub fn without_amendments_what_was_left_is_handed_on()
+    ensures { (there : Contents) (first : ℕ) (from : Setup) (n : ℕ) (to : Setup) → HasNoAmendments there
+        → (AreClosed there first from n to ↔ AreClosedPlainly there first from n to) }
+{}

@@ -1,8 +1,8 @@
 -- Files that are different.
 use Rattle.std.proofs.Common.{◌≡◌, ◌≢◌, ℕ, ap, arith}
-use Rattle.bl_folder.specs.Names.{setup_of, setup_part_of, trail_of, trail_part_of}
+use Rattle.bl_folder.specs.Names.{amend_of, amend_part_of, setup_of, setup_part_of, trail_of, trail_part_of}
 use Rattle.bl_folder.specs.declared.name.FileKind.{FileKind}
-use Rattle.bl_folder.specs.declared.name.FileKind.TheVariants.{Setup, SetupPart, Trail, TrailPart}
+use Rattle.bl_folder.specs.declared.name.FileKind.TheVariants.{Setup, SetupPart, Trail, TrailPart, Amend, AmendPart}
 use Rattle.bl_folder.specs.declared.name.RunFile.{RunFile}
 
 abbrev rank : FileKind → ℕ
@@ -10,6 +10,8 @@ rank Setup = 0
 rank SetupPart = 1
 rank Trail = 2
 rank TrailPart = 3
+rank Amend = 4
+rank AmendPart = 5
 
 abbrev rank-of : RunFile → ℕ
 rank-of file = rank file.kind
@@ -23,6 +25,9 @@ module _ (run other : ℕ) where
 
   pub setup-part : setup_of run ≢ setup_part_of other
   setup-part e = let l : 0 ≡ 1 = ap rank-of e in omega (arith, l)
+
+  pub amend-part : amend_of run ≢ amend_part_of other
+  amend-part e = let l : 4 ≡ 5 = ap rank-of e in omega (arith, l)
 
   pub part-setup : trail_part_of run ≢ setup_of other
   part-setup e = let l : 3 ≡ 0 = ap rank-of e in omega (arith, l)

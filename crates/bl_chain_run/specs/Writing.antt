@@ -2,7 +2,7 @@
 use Rattle.std.specs.Prelude.{◌≡◌, ◌≢◌, ℕ, List, Option, Some, None}
 use Rattle.bl_setup.specs.Setup.{Setup}
 use Rattle.bl_state.specs.Texts.{setup_text}
-use Rattle.bl_folder.specs.Names.{setup_of, setup_part_of, trail_of, trail_part_of}
+use Rattle.bl_folder.specs.Names.{amend_of, amend_part_of, setup_of, setup_part_of, trail_of, trail_part_of}
 use Rattle.bl_folder.specs.Standing.{Standing}
 use Rattle.bl_folder.specs.declared.name.RunFile.{RunFile}
 
@@ -32,3 +32,7 @@ IsNamed run bytes before after = HasTaken (trail_of run) (trail_part_of run) byt
 -- the setup of a run has its name
 abbrev pub IsWritten : ℕ → Setup → Standing → Standing → Type 0
 IsWritten run setup before after = HasTaken (setup_of run) (setup_part_of run) (Some (setup_text setup)) before after
+
+-- the amendment before a run has its name
+abbrev pub IsAmendmentWritten : ℕ → List ℕ → Standing → Standing → Type 0
+IsAmendmentWritten run bytes before after = HasTaken (amend_of run) (amend_part_of run) (Some bytes) before after

@@ -1,7 +1,7 @@
-//! A run is closed, and the setup of the next one is written. What has its name has it on the disk before the next step.
+//! A run is closed, and the setup of the next one, or an amendment before it, is written. What has its name has it on the disk before the next step.
 ghost use Rattle.std.specs.Prelude.{IfErr, OnOk, Some};
 ghost use Rattle.bl_chain.specs.Refused.{IsRefused};
-ghost use Rattle.bl_chain_run.specs.Writing.{IsKeptWithout, IsNamed, IsWritten};
+ghost use Rattle.bl_chain_run.specs.Writing.{IsAmendmentWritten, IsKeptWithout, IsNamed, IsWritten};
 ghost use Rattle.bl_disk.specs.File.{seen};
 ghost use Rattle.bl_folder.specs.Names.{trail_part_of};
 ghost use Rattle.bl_folder.specs.Standing.{Contents, Standing, StandsSo};
@@ -81,7 +81,26 @@ pub fn write_next<D: Device, F: Folder<D>>(
 {
     let text = write_setup(alloc, setup)?;
     let part = RunFile::setup_part(run);
-    folder.write(alloc, run, &text)?;
+    folder.write(alloc, part, &text)?;
     folder.link(alloc, part, RunFile::setup(run))?;
+    keep_names::<D, F>(alloc, folder, part)
+}
+
+/// Writes the amendment before a run: beside its name, and on the disk; then it gets that, which replaces nothing, on the
+/// disk too. `Folder` comes where a call was refused, also where an amendment of the run is there, and `Memory` where a growth
+/// was; then the file may be there, whole.
+pub fn write_amendment<D: Device, F: Folder<D>>(
+    alloc: Global,
+    folder: &mut F,
+    run: u32,
+    amendment: &[u8],
+) -> Result<(), ChainFault>
+    ensures written { (before : Standing) → F.stands folder.old before → OnOk result (StandsSo F.stands folder.new
+        (IsAmendmentWritten run amendment.now before)) }
+    ensures fault { IfErr result (λ fault. (there : Contents) → IsRefused there fault) }
+{
+    let part = RunFile::amend_part(run);
+    folder.write(alloc, part, amendment)?;
+    folder.link(alloc, part, RunFile::amend(run))?;
     keep_names::<D, F>(alloc, folder, part)
 }

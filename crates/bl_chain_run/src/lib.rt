@@ -1,6 +1,6 @@
 //! The run at hand of a chain: begun after any crash, and closed.
 //!
-//!     close     a run is closed, and the setup of the next one is written
+//!     close     a run is closed, and the setup of the next one, or an amendment before it, is written
 //!     start     the run at hand, after any crash
 //!
 //! The definitions stand in specs/:

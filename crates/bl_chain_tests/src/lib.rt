@@ -3,6 +3,7 @@
 //!     memory     a folder in memory, which may fail at a call, and lose what was not kept
 //!     base       setups, trails, and folders with them
 //!     names      the names of files
+//!     amended    folders with an amendment before a run
 //!     audits     folders that are true, and others, each by its fault
 //!     journals   the journal of the run behind the closed ones, torn at each byte
 //!     words      what the command `audit` tells of them
@@ -11,6 +12,8 @@
 //!     crashes    a crash at each call of a start, and a start after it
 #![tactic(auto)]
 
+#[cfg(test)]
+mod amended;
 #[cfg(test)]
 mod audits;
 #[cfg(test)]

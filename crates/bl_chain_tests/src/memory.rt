@@ -207,9 +207,9 @@ impl Folder<Memory> for MemoryFolder {
         }
     }
 
-    fn write(&mut self, _alloc: Global, run: u32, setup: &[u8]) -> Result<(), FolderFault> {
+    fn write(&mut self, _alloc: Global, file: RunFile, bytes: &[u8]) -> Result<(), FolderFault> {
         self.turn()?;
-        self.set(RunFile::setup_part(run), setup)?;
+        self.set(file, bytes)?;
         Ok(())
     }
 

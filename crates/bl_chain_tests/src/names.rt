@@ -24,6 +24,8 @@ fn files_and_their_names(rt: HostRuntime) -> Result<(), Fail> {
     assert_name(&rt, 1, FileKind::SetupPart, "000001.setup.part")?;
     assert_name(&rt, 20, FileKind::Trail, "000020.trail")?;
     assert_name(&rt, 999_999, FileKind::TrailPart, "999999.trail.part")?;
+    assert_name(&rt, 2, FileKind::Amend, "000002.amend")?;
+    assert_name(&rt, 2, FileKind::AmendPart, "000002.amend.part")?;
     assert_name(&rt, 1_000_000, FileKind::Trail, "1000000.trail")?;
     assert_name(&rt, MOST_RUN, FileKind::Trail, "999999999.trail")?;
     Ok(())

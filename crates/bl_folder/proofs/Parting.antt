@@ -1,9 +1,9 @@
 -- The two parts of a name.
 use Rattle.std.proofs.Common.{◌≡◌, ◌≢◌, ◌<◌, ◌∙◌, ℕ, suc, List, [], ◌∷◌, ◌++◌, drop, get_or, length, ap, sym, refl, arith, Option}
-use Rattle.std.specs.Prelude.{MatchOption, Some, None}
+use Rattle.std.specs.Prelude.{◌==◌, if◌then◌else◌, MatchOption, Some, None}
 use Rattle.bl_folder.specs.Names.{HasParts, IsRun, kind_text, name_text, number_text}
 use Rattle.bl_folder.specs.declared.name.FileKind.{FileKind}
-use Rattle.bl_folder.specs.declared.name.FileKind.TheVariants.{Setup, SetupPart, Trail, TrailPart}
+use Rattle.bl_folder.specs.declared.name.FileKind.TheVariants.{Setup, SetupPart, Trail, TrailPart, Amend, AmendPart}
 use Rattle.bl_folder.specs.declared.name.RunFile.{RunFile}
 use Rattle.bl_folder.proofs.Numbers.{no-dot, number-apart, small-name}
 
@@ -20,23 +20,22 @@ before-dot (x ∷ xs) ys (u ∷ us) vs a b e =
     let rest = before-dot xs ys us vs (λ i l. a (suc i) (omega (arith, l))) (λ i l. b (suc i) (omega (arith, l))) (ap (drop 1) e) in
     (ap (λ y. y ∷ xs) first ∙ ap (λ l. u ∷ l) rest.0, rest.1)
 
+-- what a file is whose name ends so, by the first letter and the length of that
+abbrev kind-by : (letter len : ℕ) → FileKind
+kind-by letter len =
+    if letter == 115 then (if len == 5 then Setup else SetupPart)
+    else (if letter == 116 then (if len == 5 then Trail else TrailPart) else (if len == 5 then Amend else AmendPart))
+
+kind-again : (kind : FileKind) → kind-by (get_or (kind_text kind) 0 0) (length (kind_text kind)) ≡ kind
+kind-again Setup = refl
+kind-again SetupPart = refl
+kind-again Trail = refl
+kind-again TrailPart = refl
+kind-again Amend = refl
+kind-again AmendPart = refl
+
 kind-apart : (a b : FileKind) → kind_text a ≡ kind_text b → a ≡ b
-kind-apart Setup Setup e = refl
-kind-apart Setup SetupPart e = let l : 5 ≡ 10 = ap length e in absurd (omega (arith, l))
-kind-apart Setup Trail e = let l : 115 ≡ 116 = ap (λ t. get_or t 0 0) e in absurd (omega (arith, l))
-kind-apart Setup TrailPart e = let l : 115 ≡ 116 = ap (λ t. get_or t 0 0) e in absurd (omega (arith, l))
-kind-apart SetupPart Setup e = let l : 10 ≡ 5 = ap length e in absurd (omega (arith, l))
-kind-apart SetupPart SetupPart e = refl
-kind-apart SetupPart Trail e = let l : 115 ≡ 116 = ap (λ t. get_or t 0 0) e in absurd (omega (arith, l))
-kind-apart SetupPart TrailPart e = let l : 115 ≡ 116 = ap (λ t. get_or t 0 0) e in absurd (omega (arith, l))
-kind-apart Trail Setup e = let l : 116 ≡ 115 = ap (λ t. get_or t 0 0) e in absurd (omega (arith, l))
-kind-apart Trail SetupPart e = let l : 116 ≡ 115 = ap (λ t. get_or t 0 0) e in absurd (omega (arith, l))
-kind-apart Trail Trail e = refl
-kind-apart Trail TrailPart e = let l : 5 ≡ 10 = ap length e in absurd (omega (arith, l))
-kind-apart TrailPart Setup e = let l : 116 ≡ 115 = ap (λ t. get_or t 0 0) e in absurd (omega (arith, l))
-kind-apart TrailPart SetupPart e = let l : 116 ≡ 115 = ap (λ t. get_or t 0 0) e in absurd (omega (arith, l))
-kind-apart TrailPart Trail e = let l : 10 ≡ 5 = ap length e in absurd (omega (arith, l))
-kind-apart TrailPart TrailPart e = refl
+kind-apart a b e = sym (kind-again a) ∙ ap (λ t. kind-by (get_or t 0 0) (length t)) e ∙ kind-again b
 
 file-apart : (a b : RunFile) → a.run ≡ b.run → a.kind ≡ b.kind → a ≡ b
 file-apart a b run kind = ap (λ r. record { run = r; kind = a.kind }) run ∙ ap (λ k. record { run = b.run; kind = k }) kind

@@ -1,7 +1,7 @@
 -- The names of the files of runs in a folder.
 use Rattle.std.specs.Prelude.{◌≡◌, ℕ, ◌≤◌, List, ◌∷◌, ◌++◌, codes, decimal, drop, length}
 use Rattle.bl_folder.specs.declared.name.FileKind.{FileKind}
-use Rattle.bl_folder.specs.declared.name.FileKind.TheVariants.{Setup, SetupPart, Trail, TrailPart}
+use Rattle.bl_folder.specs.declared.name.FileKind.TheVariants.{Setup, SetupPart, Trail, TrailPart, Amend, AmendPart}
 use Rattle.bl_folder.specs.declared.name.RunFile.{RunFile}
 
 -- own choice: runs are numbered from 1 to 999,999,999
@@ -18,6 +18,8 @@ kind_text Setup = codes "setup"
 kind_text SetupPart = codes "setup.part"
 kind_text Trail = codes "trail"
 kind_text TrailPart = codes "trail.part"
+kind_text Amend = codes "amend"
+kind_text AmendPart = codes "amend.part"
 
 -- own choice: the number of the run, a dot, and what the file is
 abbrev pub name_text : RunFile → List ℕ
@@ -39,3 +41,9 @@ trail_of run = record { run = run; kind = Trail }
 
 abbrev pub trail_part_of : ℕ → RunFile
 trail_part_of run = record { run = run; kind = TrailPart }
+
+abbrev pub amend_of : ℕ → RunFile
+amend_of run = record { run = run; kind = Amend }
+
+abbrev pub amend_part_of : ℕ → RunFile
+amend_part_of run = record { run = run; kind = AmendPart }

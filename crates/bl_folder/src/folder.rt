@@ -1,7 +1,7 @@
 //! A folder in which the files of runs stand: what its calls do. A device beside it is the file of a journal.
 ghost use Rattle.std.specs.Prelude.{◌≡◌, [], false, IfOk, OnErr, OnOk, IfSome, None, Some, option_map};
 ghost use Rattle.bl_disk.specs.File.{all_kept, seen};
-ghost use Rattle.bl_folder.specs.Names.{setup_part_of, trail_of, trail_part_of};
+ghost use Rattle.bl_folder.specs.Names.{trail_of, trail_part_of};
 ghost use Rattle.bl_folder.specs.Standing.{Becomes, IsKept, IsSameBut, IsSpanOf, Standing, StandsSo};
 
 use crate::fault::FolderFault;
@@ -61,13 +61,12 @@ pub trait Folder<D: Device> {
     fn unread<'j>(&self, journal: &'j D) -> Option<&'j [u8]>
         ensures { IfSome result (λ bytes. bytes.now ≡ seen (D.now journal.now)) };
 
-    /// Writes the setup of a run to the file beside its name, in place of what stood there, and has its bytes on the
-    /// disk.
-    fn write(&mut self, alloc: Global, run: u32, setup: &[u8]) -> Result<(), FolderFault>
+    /// Writes a file, in place of what stood under its name, and has its bytes on the disk.
+    fn write(&mut self, alloc: Global, file: RunFile, bytes: &[u8]) -> Result<(), FolderFault>
         ensures written { (before : Standing) → stands self.old before
-            → OnOk result (StandsSo stands self.new (Becomes (setup_part_of run) (Some setup.now) before)) }
+            → OnOk result (StandsSo stands self.new (Becomes file (Some bytes.now) before)) }
         ensures failed { (before : Standing) → stands self.old before
-            → OnErr result (StandsSo stands self.new (IsSameBut (setup_part_of run) before)) };
+            → OnErr result (StandsSo stands self.new (IsSameBut file before)) };
 
     /// Gives a file a second name, which replaces nothing. `Taken` comes where something has that name, and `Missing`
     /// where there is no such file.

@@ -1,7 +1,7 @@
 //! The files of runs in the folder of a chain, and their names.
 ghost use Rattle.std.specs.Prelude.{◌≡◌, ◌≢◌, ◌↔◌, ℕ, codes, decimal, drop, string_bytes, IfOk, IsTrue, MatchOption};
 ghost use Rattle.bl_folder.specs.Names.{HasParts, IsRun, kind_text, name_text, number_text};
-ghost use Rattle.bl_folder.specs.Names.{setup_of, setup_part_of, trail_of, trail_part_of};
+ghost use Rattle.bl_folder.specs.Names.{amend_of, amend_part_of, setup_of, setup_part_of, trail_of, trail_part_of};
 
 use itoa::Buffer;
 use std::alloc::{AllocError, Global};
@@ -20,6 +20,10 @@ pub enum FileKind {
     Trail,
     /// The journal of the run, until it has the name of the trail.
     TrailPart,
+    /// What was amended before the run, if anything.
+    Amend,
+    /// The same, while it is written.
+    AmendPart,
 }
 
 /// A file of a run: the number of the run, from 1, and what the file is.
@@ -71,6 +75,26 @@ impl RunFile {
             kind: FileKind::TrailPart,
         }
     }
+
+    /// The amendment before a run.
+    pub fn amend(run: u32) -> RunFile
+        ensures { result ≡ amend_of run }
+    {
+        RunFile {
+            run,
+            kind: FileKind::Amend,
+        }
+    }
+
+    /// The file that the amendment before a run is written to.
+    pub fn amend_part(run: u32) -> RunFile
+        ensures { result ≡ amend_part_of run }
+    {
+        RunFile {
+            run,
+            kind: FileKind::AmendPart,
+        }
+    }
 }
 
 /// What the name of a file ends with that is this.
@@ -82,6 +106,8 @@ fn kind_words(kind: FileKind) -> &'static str
         FileKind::SetupPart => "setup.part",
         FileKind::Trail => "trail",
         FileKind::TrailPart => "trail.part",
+        FileKind::Amend => "amend",
+        FileKind::AmendPart => "amend.part",
     }
 }
 
@@ -160,6 +186,8 @@ fn kind_in(text: &[u8]) -> Option<FileKind>
         b"setup.part" => Some(FileKind::SetupPart),
         b"trail" => Some(FileKind::Trail),
         b"trail.part" => Some(FileKind::TrailPart),
+        b"amend" => Some(FileKind::Amend),
+        b"amend.part" => Some(FileKind::AmendPart),
         _ => None,
     }
 }

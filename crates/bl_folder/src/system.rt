@@ -177,12 +177,11 @@ where
         journal.found()
     }
 
-    fn write(&mut self, alloc: Global, run: u32, setup: &[u8]) -> Result<(), FolderFault> {
-        let part = RunFile::setup_part(run);
-        self.remove(alloc, part)?;
-        let path = self.path_of(alloc, part)?;
+    fn write(&mut self, alloc: Global, file: RunFile, bytes: &[u8]) -> Result<(), FolderFault> {
+        self.remove(alloc, file)?;
+        let path = self.path_of(alloc, file)?;
         let mut file = answered(new_file(self.rt, path.as_str()))?;
-        answered(write_all(&mut file, setup, self.keeping))?;
+        answered(write_all(&mut file, bytes, self.keeping))?;
         Ok(())
     }
 

@@ -29,7 +29,7 @@ pub returns : goal.returns
 returns g c = record {
   written = λ before is.
       let run = c.args.run in
-      let beside = rw (c.deref.ensures.value, c.in_ok-text.ensures) at (c.in_ok-write.ensures.written before is) in
+      let beside = rw (c.setup_part-part.ensures, c.deref.ensures.value, c.in_ok-text.ensures) at (c.in_ok-write.ensures.written before is) in
       let linked = rw (c.setup_part-part.ensures, c.setup.ensures) at (c.in_ok-link.ensures.linked beside.standing beside.is) in
       let tidied = rw c.setup_part-part.ensures at (c.keep_names.ensures.kept linked.1.standing linked.1.is) in
       on_ok_weaker c.keep_names.result

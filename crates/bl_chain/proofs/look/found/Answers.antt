@@ -1,6 +1,6 @@
 use Rattle.std.proofs.Common.{◌∙◌, ap, sym, Some}
 use Rattle.bl_chain.proofs.Exits.{err-so, of-call, ok-so, silent, told}
-use Rattle.bl_chain.proofs.look.look.Goals as goal
+use Rattle.bl_chain.proofs.look.found.Goals as goal
 
 pub returns-in_err-last : goal.returns-in_err-last
 returns-in_err-last g c = record {
