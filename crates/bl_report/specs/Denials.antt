@@ -1,5 +1,5 @@
 -- What a denial blames.
-use Rattle.std.specs.Prelude.{◌≡◌, ◌<◌, ℕ, List, Option, Some, slice_get}
+use Rattle.std.specs.Prelude.{◌≡◌, ◌<◌, ℕ, List, [], ◌∷◌, Option, Some, slice_get}
 use Rattle.bl_level.specs.Level.{SecurityLevel}
 use Rattle.bl_policy.specs.declared.access.Access.{Access}
 use Rattle.bl_policy.specs.declared.denial.Denial.{Denial}
@@ -8,13 +8,14 @@ use Rattle.bl_policy.specs.Policy.{SecurityPolicy}
 use Rattle.bl_policy.specs.Properties.{IsGranted}
 use Rattle.bl_policy.specs.RuleEffect.{FailsCondition}
 use Rattle.bl_order.specs.Order.{Task, accesses_of}
-use Rattle.bl_order.specs.Machine.{State, past_at}
+use Rattle.bl_order.specs.Machine.{State, Starts, past_at}
 use Rattle.bl_order.specs.Now.{policy_now}
 use Rattle.bl_explain.specs.Grounds.{grounds_of}
 use Rattle.bl_explain.specs.RuleTests.{rule_grounds_of}
-use Rattle.bl_report.specs.Items.{blame_of}
+use Rattle.bl_report.specs.Items.{items_at}
 use Rattle.bl_report.specs.declared.item.Blame.{Blame}
 use Rattle.bl_report.specs.declared.item.Blame.TheVariants.{OfAccess, OfRule}
+use Rattle.bl_report.specs.declared.item.Happening.TheVariants.{Denied}
 use Rattle.bl_report.specs.declared.item.JudgedAccess.{JudgedAccess}
 
 -- The access is one of those that are declared, those before it are granted, and it fails this first; its grounds are what decides it.
@@ -31,8 +32,9 @@ abbrev pub IsToBlame : SecurityPolicy → ℕ → SecurityLevel → Task → Den
 IsToBlame p s carried task denial (OfAccess judged) = FailsHere p s carried (accesses_of task) denial judged
 IsToBlame p s carried task denial (OfRule rule grounds) = FailsCondition denial.clause p s rule × (grounds ≡ rule_grounds_of p s rule)
 
--- something is blamed for the denial of a place, and it is to blame
-pub record IsBlamed (since : Access → Option ℕ) (x : State) (n : ℕ) (denial : Denial) : Type 0 where
+-- What is told of a denied start is one item, and what it blames is to blame, by the policy that the start finds.
+pub record IsBlamed (until : ℕ → Option ℕ) (since : ℕ → Access → Option ℕ) (x : State) (number n : ℕ) (denial : Denial) : Type 0 where
   pub blame : Blame
-  pub is : blame_of (policy_now x) (past_at x n).subject (past_at x n).carried since (past_at x n).task ≡ Some blame
+  pub item : items_at until since x number (Starts n)
+      ≡ record { event = number; subject = (past_at x n).subject; happening = Denied n denial.clause blame } ∷ []
   pub to_blame : IsToBlame (policy_now x) (past_at x n).subject (past_at x n).carried (past_at x n).task denial blame

@@ -3,6 +3,7 @@ use Rattle.std.specs.Prelude.{ℕ, zero, suc, ◌+◌, Bool, true, false, ◌==�
 use Rattle.bl_level.specs.Level.{SecurityLevel}
 use Rattle.bl_policy.specs.declared.access.Access.{Access}
 use Rattle.bl_policy.specs.declared.access.Mode.TheVariants.{Read, Append, Write}
+use Rattle.bl_policy.specs.declared.denial.Denial.{Denial}
 use Rattle.bl_policy.specs.declared.rule.Rule.{Rule}
 use Rattle.bl_policy.specs.declared.rule.Rule.TheVariants.{Give, Rescind, Current, Classify, Create, Delete}
 use Rattle.bl_policy.specs.FirstFault.{fault_of}
@@ -92,14 +93,22 @@ module _ (until : ℕ → Option ℕ) (since : ℕ → Access → Option ℕ) (x
   abbrev pub judged_at : Past → Access → JudgedAccess
   judged_at past access = judged_of (policy_now x) past.subject past.carried (since past.subject) access
 
-  -- the start of a place, by its answer and its task
-  abbrev pub starting : ℕ → Past → Answer → Task → List ReportItem
-  starting n past (answer.Done shown) task = map (λ access. item_of past.subject (Held n (judged_at past access) (until n))) (accesses_of task)
-  starting n past answer.RuleDone (Runs script index) = []
-  starting n past answer.RuleDone (Applies rule) = item_of past.subject (Changed n rule (former_of x past.subject rule)) ∷ []
-  starting n past (answer.Denied denial) task =
+  -- a start that is denied
+  abbrev pub denying : ℕ → Past → Denial → Task → List ReportItem
+  denying n past denial task =
       option_to_list
       (option_map (λ blame. item_of past.subject (Denied n denial.clause blame)) (blame_of (policy_now x) past.subject past.carried (since past.subject) task))
+
+  -- one that is done, so that each declared access is held
+  abbrev pub holding : ℕ → Past → Task → List ReportItem
+  holding n past task = map (λ access. item_of past.subject (Held n (judged_at past access) (until n))) (accesses_of task)
+
+  -- the start of a place, by its answer and its task
+  abbrev pub starting : ℕ → Past → Answer → Task → List ReportItem
+  starting n past (answer.Done shown) task = holding n past task
+  starting n past answer.RuleDone (Runs script index) = []
+  starting n past answer.RuleDone (Applies rule) = item_of past.subject (Changed n rule (former_of x past.subject rule)) ∷ []
+  starting n past (answer.Denied denial) task = denying n past denial task
   starting n past answer.Lost task = []
 
   -- what the end of a place does to the documents that it declares append or write

@@ -1,5 +1,5 @@
 -- That the items leave nothing out.
-use Rattle.std.specs.Prelude.{◌≡◌, ◌<◌, ◌≤◌, ℕ, suc, Bool, true, false, ◌==◌, List, [], ◌∷◌, length, slice_get, Some}
+use Rattle.std.specs.Prelude.{◌≤◌, ℕ, Bool, true, false, ◌==◌, List, [], ◌∷◌}
 use Rattle.std.specs.List.{list_any}
 use Rattle.bl_order.specs.Past.{deletes}
 use Rattle.bl_report.specs.declared.item.Happening.{Happening}
@@ -36,7 +36,3 @@ tells test items = list_any (λ (item : ReportItem). test item.happening) items
 abbrev pub RiseBetween : ℕ → ℕ → List ReportItem → Type 0
 RiseBetween low high [] = Unit {0}
 RiseBetween low high (item ∷ items) = (low ≤ item.event) × (item.event ≤ high) × RiseBetween item.event high items
-
--- some item is of this event
-abbrev pub HasEvent : ℕ → List ReportItem → Type 0
-HasEvent number items = (place : ℕ) × (item : ReportItem) × (slice_get items place ≡ Some item) × (item.event ≡ number)

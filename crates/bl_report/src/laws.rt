@@ -1,33 +1,34 @@
 //! Laws: that what the items tell is so of the run, and that they leave nothing out.
 //!
 //! Each function does nothing, and its contract is the law.
-ghost use Rattle.std.specs.Prelude.{◌≡◌, ◌↔◌, ◌<◌, ◌≤◌, ℕ, suc, List, Option, Some, true, false, length, slice_get, take};
+ghost use Rattle.std.specs.Prelude.{◌≡◌, ◌↔◌, ◌<◌, ◌≤◌, ℕ, List, Option, true, false, length, take};
 ghost use Rattle.bl_level.specs.Level.{SecurityLevel};
 ghost use Rattle.bl_policy.specs.Policy.{SecurityPolicy, is_trusted};
 ghost use Rattle.bl_policy.specs.Properties.{IsGranted};
 ghost use Rattle.bl_policy.specs.declared.access.Access.{Access};
 ghost use Rattle.bl_policy.specs.declared.denial.Denial.{Denial};
-ghost use Rattle.bl_work.specs.declared.answer.Answer.TheVariants.{Denied};
+ghost use Rattle.bl_work.specs.declared.answer.Answer.TheVariants.{Denied, Done};
 ghost use Rattle.bl_setup.specs.Setup.{Setup};
 ghost use Rattle.bl_setup.specs.declared.version.Version.TheVariants as Version;
 ghost use Rattle.bl_order.specs.Headline.{IsReached};
 ghost use Rattle.bl_order.specs.Machine.{Event, IsTrail, MayStart, Needs, State, change, held, past_at, start, state_after};
 ghost use Rattle.bl_order.specs.Now.{content_now, policy_at, policy_now};
-ghost use Rattle.bl_order.specs.TheHeadline.{IsFirstFaultOf};
 ghost use Rattle.bl_explain.specs.Grounds.{grounds_of};
 ghost use Rattle.bl_explain.specs.Tests.{is_exempt};
 ghost use Rattle.bl_report.specs.Denials.{IsBlamed};
+ghost use Rattle.bl_report.specs.Entered.{admissions, entries_from};
 ghost use Rattle.bl_report.specs.Exemption.{without_trust};
+ghost use Rattle.bl_report.specs.Granted.{TellsGranted};
 ghost use Rattle.bl_report.specs.Items.{items_at, report_items};
 ghost use Rattle.bl_report.specs.Opened.{held_at, open_below, open_of};
 ghost use Rattle.bl_report.specs.Ways.{IsWayDown};
-ghost use Rattle.bl_report.specs.Whole.{HasEvent, RiseBetween, is_change, is_touch, tells};
+ghost use Rattle.bl_report.specs.Whole.{RiseBetween, is_change, is_touch, tells};
 
-use bl_explain::laws::denials_are_of_their_moment as denied_by_the_present;
-use bl_order::laws::{each_state_holds, events_move_the_present, headline, lineage};
-use bl_policy::laws::{
-    first_fault_is_the_first, rule_fault_is_the_first, tests_are_the_properties,
+use bl_explain::laws::{
+    denials_are_of_their_moment as denied_by_the_present, grounds_decide, what_fails_first_decides,
 };
+use bl_order::laws::{each_state_holds, events_move_the_present, headline, lineage};
+use bl_policy::laws::rule_fault_is_the_first;
 
 /// At every moment of a run the items that are open tell just the accesses that are held then: of each place, in the order
 /// in which it declares them, and place by place in the same order. None is missing, and none is too much.
@@ -63,14 +64,25 @@ pub fn nothing_else_changes()
     events_move_the_present();
 }
 
-/// A denial is of its start's own moment: what is to blame is judged by the policy that the event finds, and by that it
-/// fails first what the denial names.
+/// What is held was granted: a start that is done tells each access that is declared, and each is granted by the policy that
+/// it finds, whose levels and rights stand beside it.
+pub fn what_is_held_was_granted()
+    ensures { (until : ℕ → Option ℕ) (since : ℕ → Access → Option ℕ) (x : State) (number n : ℕ) (shown : List (List ℕ))
+        → IsReached x → MayStart x n → (past_at x n).answer ≡ Done shown → TellsGranted until since x number n }
+{
+    headline();
+    each_state_holds();
+}
+
+/// A denial is of its start's own moment: it tells one item, and what that blames is judged by the policy that the start
+/// finds, and by that it fails first what the denial names.
 pub fn denials_are_of_their_moment()
-    ensures { (since : Access → Option ℕ) (x : State) (n : ℕ) (denial : Denial) → IsReached x → MayStart x n
-        → (past_at x n).answer ≡ Denied denial → IsBlamed since x n denial }
+    ensures { (until : ℕ → Option ℕ) (since : ℕ → Access → Option ℕ) (x : State) (number n : ℕ) (denial : Denial)
+        → IsReached x → MayStart x n → (past_at x n).answer ≡ Denied denial
+        → IsBlamed until since x number n denial }
 {
     denied_by_the_present();
-    first_fault_is_the_first();
+    what_fails_first_decides();
     rule_fault_is_the_first();
 }
 
@@ -81,16 +93,19 @@ pub fn exemption_is_what_trust_adds()
         → (is_exempt (grounds_of p s carried access) access.mode ≡ false)
         ↔ IsGranted (without_trust p s) s carried access.doc access.mode }
 {
-    tests_are_the_properties();
+    grounds_decide();
+    what_fails_first_decides();
 }
 
-/// Each event has its items, and the items rise by event.
-pub fn each_event_has_its_items()
-    ensures rise { (setup : Setup) (limit : ℕ) (events : List Event) → IsTrail (start setup limit) events
-        → RiseBetween 1 (length events) (report_items setup limit events) }
-    ensures each { (setup : Setup) (limit : ℕ) (events : List Event) (k : ℕ) → IsTrail (start setup limit) events
-        → k < length events → HasEvent (suc k) (report_items setup limit events) }
-{
-    denied_by_the_present();
-    first_fault_is_the_first();
-}
+/// What is told to be admitted is the order: its entries, each with its place and where it comes from. None is missing, no
+/// child either, and none comes twice.
+pub fn what_is_admitted_is_the_order()
+    ensures { (setup : Setup) (limit : ℕ) (events : List Event) →
+        admissions (report_items setup limit events) ≡ entries_from 0 (state_after (start setup limit) events).order }
+{}
+
+/// The items rise by event, so none comes twice: those of an event stand together, behind those of the events before it.
+pub fn items_rise_by_event()
+    ensures { (setup : Setup) (limit : ℕ) (events : List Event) →
+        RiseBetween 1 (length events) (report_items setup limit events) }
+{}

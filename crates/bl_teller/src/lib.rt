@@ -9,7 +9,6 @@
 #![tactic(auto)]
 
 mod register;
-pub mod report;
 mod rights;
 mod scene;
 mod teller;

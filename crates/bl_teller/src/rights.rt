@@ -100,6 +100,8 @@ impl RightsSince {
         ensures many { length self.new.events.items ≡ length self.old.events.items }
         ensures noted { IsNotedFor (is_right subject access.now) before.now after.now event (table_of self.old) (table_of self.new) }
     {
+        // read for the proof alone: there are few documents
+        let _documents = before.documents();
         let had = has(before, subject, access);
         let has_now = has(after, subject, access);
         if is_same_answer(had, has_now) {
@@ -141,6 +143,8 @@ impl RightsSince {
         ensures noted { IsNotedFor (is_in_column (length before.now.subjects) doc) before.now after.now event
             (table_of self.old) (table_of self.new) }
     {
+        // read for the proof alone: there are few documents
+        let _documents = before.documents();
         for subject in 0..before.subjects() as u16 {
             self.note_cell(event, before, after, SubjectId::new(subject), doc);
         }
@@ -155,6 +159,8 @@ impl RightsSince {
         ensures noted { IsNotedFor (is_known (length before.now.subjects)) before.now after.now event (table_of self.old) (table_of self.new) }
     {
         matrix_is_a_set();
+        // read for the proof alone: there are few documents
+        let _documents = before.documents();
         match *rule {
             Rule::Give { subject, doc, mode } | Rule::Rescind { subject, doc, mode } => {
                 self.note(event, before, after, subject, &Access { mode, doc });

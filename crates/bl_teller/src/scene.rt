@@ -1,4 +1,17 @@
 //! What an event did: by what was kept before it, and by the hall behind it.
+ghost use Rattle.std.specs.Prelude.{◌≡◌, ◌<◌, ◌≤◌, ◌++◌, ◌∷◌, [], ℕ, All, IfSome, None, OnOk, Option, length, map, slice_index_or};
+ghost use Rattle.bl_policy.specs.Policy.{allows, current_of, level_of};
+ghost use Rattle.bl_policy.specs.RuleEffect.{IsRuleOf};
+ghost use Rattle.bl_policy.specs.declared.access.Access.{Access as AnyAccess};
+ghost use Rattle.bl_order.specs.Headline.{IsReached};
+ghost use Rattle.bl_order.specs.Machine.{Ends, Loses, Starts, State, entry_weight, past_at};
+ghost use Rattle.bl_order.specs.Order.{accesses_of};
+ghost use Rattle.bl_order.specs.Past.{no_entry};
+ghost use Rattle.bl_core.specs.Origins.{origin_of};
+ghost use Rattle.bl_report.specs.Items.{blame_of, former_of, items_at, judged_of, modes_of, rights_below};
+ghost use Rattle.bl_teller.specs.Rights.{table_of};
+ghost use Rattle.bl_teller.specs.Scenes.{IsScene};
+
 use crate::register::{Register, alters, content_length};
 use crate::rights::has;
 use bl_core::machine::Core;
@@ -27,7 +40,10 @@ pub(crate) struct Scene<'a> {
 }
 
 /// What an entry weighs: a child nothing.
-fn weight(core: &Core, n: u32) -> u32 {
+fn weight(core: &Core, n: u32) -> u32
+    requires { n < length core.now.order }
+    ensures { result ≡ entry_weight (slice_index_or core.now.order n no_entry) }
+{
     match core.work(n) {
         Some(Work::Behaviour(script)) => script.weight() as u32,
         Some(Work::Rule(_)) => 1,
@@ -36,7 +52,12 @@ fn weight(core: &Core, n: u32) -> u32 {
 }
 
 /// How many modes the matrix has for a subject and a document.
-fn modes_of(policy: &Policy, subject: SubjectId, doc: DocId) -> usize {
+fn modes_of(policy: &Policy, subject: SubjectId, doc: DocId) -> usize
+    requires known { subject < length policy.now.subjects }
+    requires there { doc < length policy.now.documents }
+    ensures value { result ≡ modes_of policy.now subject doc }
+    ensures few { result ≤ 3 }
+{
     let read = has(
         policy,
         subject,
@@ -65,7 +86,10 @@ fn modes_of(policy: &Policy, subject: SubjectId, doc: DocId) -> usize {
 }
 
 /// How many rights there are at a document.
-fn rights_of(policy: &Policy, doc: DocId) -> usize {
+fn rights_of(policy: &Policy, doc: DocId) -> usize
+    requires { doc < length policy.now.documents }
+    ensures { result ≡ rights_below policy.now doc (length policy.now.subjects) }
+{
     let mut count = 0;
     for subject in 0..policy.subjects() as u16 {
         count += modes_of(policy, SubjectId::new(subject), doc);
@@ -75,7 +99,9 @@ fn rights_of(policy: &Policy, doc: DocId) -> usize {
 
 impl<'a> Scene<'a> {
     /// An item of the event.
-    fn item(&self, subject: SubjectId, happening: Happening) -> ReportItem {
+    fn item(&self, subject: SubjectId, happening: Happening) -> ReportItem
+        ensures { result ≡ record { event = self.now.number; subject = subject; happening = happening } }
+    {
         ReportItem {
             event: self.number,
             subject,
@@ -84,7 +110,12 @@ impl<'a> Scene<'a> {
     }
 
     /// An access, and by what it is judged.
-    fn judged(&self, subject: SubjectId, carried: &Level, access: &Access) -> JudgedAccess {
+    fn judged(&self, subject: SubjectId, carried: &Level, access: &Access) -> JudgedAccess
+        requires known { subject < length self.now.register.now.policy.subjects }
+        requires there { access.now.doc < length self.now.register.now.policy.documents }
+        ensures { result ≡ judged_of self.now.register.now.policy subject carried.now
+            (table_of self.now.register.now.rights subject) access.now }
+    {
         JudgedAccess {
             access: *access,
             grounds: Grounds::of(&self.register.policy, subject, carried, access),
