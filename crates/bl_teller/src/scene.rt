@@ -1,26 +1,27 @@
 //! What an event did: by what was kept before it, and by the hall behind it.
-ghost use Rattle.std.specs.Prelude.{◌≡◌, ◌<◌, ◌≤◌, ◌++◌, ◌∷◌, [], ℕ, All, IfSome, None, OnOk, Option, length, map, slice_index_or};
-ghost use Rattle.bl_policy.specs.Policy.{allows, current_of, level_of};
+ghost use Rattle.std.specs.Prelude.{◌≡◌, ◌<◌, ◌≤◌, ◌++◌, ◌∷◌, [], OnOk, length, map, option_map, option_to_list, slice_index_or, true};
 ghost use Rattle.bl_policy.specs.RuleEffect.{IsRuleOf};
-ghost use Rattle.bl_policy.specs.declared.access.Access.{Access as AnyAccess};
-ghost use Rattle.bl_order.specs.Headline.{IsReached};
-ghost use Rattle.bl_order.specs.Machine.{Ends, Loses, Starts, State, entry_weight, past_at};
-ghost use Rattle.bl_order.specs.Order.{accesses_of};
+ghost use Rattle.bl_policy.specs.declared.rule.Rule.{Rule as AnyRule};
+ghost use Rattle.bl_order.specs.Machine.{State, entry_weight, past_at};
+ghost use Rattle.bl_order.specs.Now.{policy_now};
+ghost use Rattle.bl_order.specs.Order.{Applies, accesses_of, is_rule};
 ghost use Rattle.bl_order.specs.Past.{no_entry};
-ghost use Rattle.bl_core.specs.Origins.{origin_of};
-ghost use Rattle.bl_report.specs.Items.{blame_of, former_of, items_at, judged_of, modes_of, rights_below};
+ghost use Rattle.bl_report.specs.Items.{blame_of, former_of, judged_of, modes_of, rights_below};
+ghost use Rattle.bl_teller.specs.Keeping.{AreLengths};
 ghost use Rattle.bl_teller.specs.Rights.{table_of};
-ghost use Rattle.bl_teller.specs.Scenes.{IsScene};
+ghost use Rattle.bl_teller.specs.Scenes.{HasPlaceOf, changed_by, denied_by, held_by};
 
 use crate::register::{Register, alters, content_length};
 use crate::rights::has;
 use bl_core::machine::Core;
 use bl_core::session::SessionNo;
 use bl_explain::grounds::Grounds;
+use bl_explain::laws::what_fails_first_decides;
 use bl_explain::rules::RuleGrounds;
 use bl_explain::several::first_refused;
 use bl_hall::event::Event;
 use bl_level::level::Level;
+use bl_order::laws::{each_state_holds, tasks_are_of_scripts};
 use bl_policy::access::{Access, Mode};
 use bl_policy::denial::Clause;
 use bl_policy::id::{DocId, SubjectId};
@@ -162,7 +163,12 @@ impl<'a> Scene<'a> {
         subject: SubjectId,
         carried: &Level,
         items: &mut Vec<ReportItem>,
-    ) -> Result<(), AllocError> {
+    ) -> Result<(), AllocError>
+        requires { HasPlaceOf self.now place subject }
+        ensures { OnOk result (items.new.items ≡ items.old.items
+            ++ map (held_by self.now place subject carried.now) (accesses_of (past_at self.now.core.now place).task)) }
+    {
+        tasks_are_of_scripts();
         let Some((script, index)) = self.core.behaviour(place) else {
             return Ok(());
         };
@@ -182,7 +188,14 @@ impl<'a> Scene<'a> {
     }
 
     /// What is to blame for the denial of a place.
-    fn blame(&self, place: u32, subject: SubjectId, carried: &Level) -> Option<Blame> {
+    fn blame(&self, place: u32, subject: SubjectId, carried: &Level) -> Option<Blame>
+        requires { HasPlaceOf self.now place subject }
+        ensures { result ≡ blame_of self.now.register.now.policy subject carried.now
+            (table_of self.now.register.now.rights subject) (past_at self.now.core.now place).task }
+    {
+        tasks_are_of_scripts();
+        each_state_holds();
+        what_fails_first_decides();
         let policy = &self.register.policy;
         match self.core.behaviour(place) {
             Some((script, index)) => {
@@ -208,7 +221,13 @@ impl<'a> Scene<'a> {
         carried: &Level,
         clause: Clause,
         items: &mut Vec<ReportItem>,
-    ) -> Result<(), AllocError> {
+    ) -> Result<(), AllocError>
+        requires { HasPlaceOf self.now place subject }
+        ensures { OnOk result (items.new.items ≡ items.old.items ++ option_to_list (option_map
+            (denied_by self.now place subject clause)
+            (blame_of self.now.register.now.policy subject carried.now (table_of self.now.register.now.rights subject)
+            (past_at self.now.core.now place).task))) }
+    {
         match self.blame(place, subject, carried) {
             Some(blame) => {
                 items.push(self.item(
@@ -226,7 +245,13 @@ impl<'a> Scene<'a> {
     }
 
     /// What stands where a rule makes its change.
-    fn former(&self, speaker: SubjectId, rule: &Rule) -> Former {
+    fn former(&self, speaker: SubjectId, rule: &Rule) -> Former
+        requires known { speaker < length self.now.register.now.policy.subjects }
+        requires there { IsRuleOf self.now.register.now.policy rule.now }
+        requires lengths { length self.now.register.now.lengths.items ≡ length self.now.register.now.policy.documents }
+        ensures { (x : State) → self.now.register.now.policy ≡ policy_now x
+            → AreLengths x self.now.register.now.lengths.items → result ≡ former_of x speaker rule.now }
+    {
         let policy = &self.register.policy;
         match *rule {
             Rule::Give { subject, doc, mode } | Rule::Rescind { subject, doc, mode } => {
@@ -248,7 +273,14 @@ impl<'a> Scene<'a> {
         place: u32,
         subject: SubjectId,
         items: &mut Vec<ReportItem>,
-    ) -> Result<(), AllocError> {
+    ) -> Result<(), AllocError>
+        requires place { HasPlaceOf self.now place subject }
+        requires rule { is_rule (past_at self.now.core.now place).task ≡ true }
+        ensures { OnOk result ((x : State) (rule : AnyRule) → self.now.register.now.policy ≡ policy_now x
+            → AreLengths x self.now.register.now.lengths.items → (past_at self.now.core.now place).task ≡ Applies rule
+            → items.new.items ≡ items.old.items ++ changed_by self.now place subject rule (former_of x subject rule) ∷ []) }
+    {
+        each_state_holds();
         match self.core.work(place) {
             Some(Work::Rule(rule)) => {
                 let before = self.former(subject, rule);
