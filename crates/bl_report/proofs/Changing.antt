@@ -1,6 +1,6 @@
 -- What no item tells to be changed stays as it was.
 use Rattle.std.proofs.Common.{◌≡◌, ℕ, Bool, true, false, cond, ◌&&◌, ◌||◌, List, [], ◌∷◌, ◌++◌, length, refl, sym, ◌∙◌, ap, true≢false, Option, Some, None}
-use Rattle.std.specs.Prelude.{◌==◌, IsTrue}
+use Rattle.std.specs.Prelude.{◌==◌}
 use Rattle.std.specs.List.{list_any}
 use Rattle.bl_policy.specs.declared.access.Access.{Access}
 use Rattle.bl_policy.specs.declared.denial.Denial.{Denial}
@@ -11,7 +11,7 @@ use Rattle.bl_work.specs.declared.answer.Answer.{Answer}
 use Rattle.bl_work.specs.declared.answer.Answer.TheVariants as answer
 use Rattle.bl_order.specs.Headline.{IsReached, MovesOn}
 use Rattle.bl_order.specs.TheHeadline.{IsTheHeadline}
-use Rattle.bl_order.specs.Machine.{State, Event, Opens, Admits, Starts, Ends, Loses, MayStart, Needs, change, children_at, past_at, runs}
+use Rattle.bl_order.specs.Machine.{State, Event, Opens, Admits, Starts, Ends, Loses, MayStart, Needs, change, children_at, past_at}
 use Rattle.bl_order.specs.Now.{content_now, policy_now}
 use Rattle.bl_order.specs.Order.{Task, Runs, Applies, accesses_of, is_rule}
 use Rattle.bl_order.specs.Past.{Past, answer_of, changed, deletes, has_deleted, is_done, is_rule_done, may_alter}

@@ -1,5 +1,5 @@
 -- What is blamed for a denial is to blame.
-use Rattle.std.proofs.Common.{◌≡◌, ℕ, zero, suc, ◌<◌, Bool, true, false, cond, List, [], ◌∷◌, refl, sym, ◌∙◌, ap, subst, arith, Option, Some, None}
+use Rattle.std.proofs.Common.{◌≡◌, ℕ, zero, suc, ◌<◌, cond, List, [], ◌∷◌, refl, sym, ◌∙◌, ap, subst, arith, Option, Some, None}
 use Rattle.std.specs.Prelude.{◌↔◌, is_some, option_map, option_to_list, slice_get}
 use Rattle.bl_level.specs.Level.{SecurityLevel}
 use Rattle.bl_policy.specs.declared.access.Access.{Access}
@@ -16,7 +16,7 @@ use Rattle.bl_order.specs.Now.{policy_now}
 use Rattle.bl_order.specs.Order.{Task, Runs, Applies, accesses_of}
 use Rattle.bl_explain.specs.Run.{IsOfItsMoment}
 use Rattle.bl_explain.specs.Tests.{fails_first, in_order, refused, tests_of}
-use Rattle.bl_report.specs.Denials.{FailsHere, IsBlamed, IsToBlame}
+use Rattle.bl_report.specs.Denials.{IsBlamed}
 use Rattle.bl_explain.specs.RuleTests.{rule_grounds_of}
 use Rattle.bl_report.specs.Items.{blame_of, first_at_fault, item_of, items_at, judged_of, starting}
 use Rattle.bl_report.specs.declared.item.Blame.{Blame}

@@ -1,5 +1,5 @@
 -- What the items tell to be admitted is the order.
-use Rattle.std.proofs.Common.{◌≡◌, ℕ, zero, suc, ◌+◌, Bool, true, false, cond, List, [], ◌∷◌, ◌++◌, length, map, refl, sym, ◌∙◌, ap, arith, append_assoc, append-nil, Option, Some, None}
+use Rattle.std.proofs.Common.{◌≡◌, ℕ, suc, ◌+◌, Bool, true, false, cond, List, [], ◌∷◌, ◌++◌, length, map, refl, sym, ◌∙◌, ap, arith, append_assoc, append-nil, Option, Some, None}
 use Rattle.std.specs.Prelude.{option_map, option_to_list}
 use Rattle.bl_policy.specs.declared.access.Access.{Access}
 use Rattle.bl_policy.specs.declared.denial.Clause.{Clause}
@@ -8,7 +8,6 @@ use Rattle.bl_work.specs.declared.answer.Answer.{Answer}
 use Rattle.bl_work.specs.declared.answer.Answer.TheVariants as answer
 use Rattle.bl_setup.specs.Setup.{Setup}
 use Rattle.bl_core.specs.Origins.{origin_of}
-use Rattle.bl_core.specs.declared.origin.Origin.{Origin}
 use Rattle.bl_order.specs.Order.{Entry, Line, Task, Runs, Applies, accesses_of}
 use Rattle.bl_order.specs.Past.{Past}
 use Rattle.bl_order.specs.Machine.{State, Event, Opens, Admits, Starts, Ends, Loses, change, children_at, past_at, session_at, start, state_after}
@@ -16,7 +15,7 @@ use Rattle.bl_hall.specs.Chronicle.{Chronicle, state_now, with_event}
 use Rattle.bl_report.specs.Entered.{admission_of, admissions, entries_from}
 use Rattle.bl_report.specs.Items.{altering, ended_at, entering, item_of, items_at, judged_at, report_items, right_since, starting, told, unbegun}
 use Rattle.bl_report.specs.declared.item.Blame.{Blame}
-use Rattle.bl_report.specs.declared.item.Happening.TheVariants.{Held, Denied, Done}
+use Rattle.bl_report.specs.declared.item.Happening.TheVariants.{Held, Denied}
 use Rattle.bl_report.specs.declared.item.ReportItem.{ReportItem}
 use Rattle.bl_report.proofs.Opening.{state-with}
 

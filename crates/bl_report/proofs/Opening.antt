@@ -8,9 +8,9 @@ use Rattle.bl_work.specs.Modes.{alters}
 use Rattle.bl_work.specs.declared.answer.Answer.{Answer}
 use Rattle.bl_work.specs.declared.answer.Answer.TheVariants as answer
 use Rattle.bl_setup.specs.Setup.{Setup}
-use Rattle.bl_order.specs.Order.{Entry, Line, Task, Runs, Applies, accesses_of}
+use Rattle.bl_order.specs.Order.{Entry, Task, Runs, Applies, accesses_of}
 use Rattle.bl_order.specs.Past.{Past, is_done}
-use Rattle.bl_order.specs.Machine.{State, Event, Opens, Admits, Starts, Ends, Loses, Hold, IsTrail, MayStart, Needs, Phase, Waiting, Running, Ended, Gone, change, children_at, has_ended, held, held_below, is_running, is_waiting, past_at, phase_at, runs, session_at, start, state_after, with_phase}
+use Rattle.bl_order.specs.Machine.{State, Event, Opens, Admits, Starts, Ends, Loses, Hold, IsTrail, MayStart, Needs, Phase, Waiting, Running, Ended, Gone, change, children_at, has_ended, held, held_below, is_running, is_waiting, past_at, phase_at, runs, start, state_after, with_phase}
 use Rattle.bl_order.proofs.Sound.{IsSound}
 use Rattle.bl_order.proofs.Steps.{past-alike, running_is_not_over, waiting_is_not_over}
 use Rattle.bl_order.proofs.Trails.{past-admitted, past-ended, past-started, sound-start, sound-step, within}
@@ -20,7 +20,7 @@ use Rattle.bl_report.specs.Opened.{held_at, is_before, is_within, open_below, op
 use Rattle.bl_report.specs.declared.item.Blame.{Blame}
 use Rattle.bl_report.specs.declared.item.Happening.TheVariants.{Held, Denied}
 use Rattle.bl_report.specs.declared.item.ReportItem.{ReportItem}
-use Rattle.bl_report.proofs.Running.{ended-idle, lost-moves, one-step, over-now, over-step, step}
+use Rattle.bl_report.proofs.Running.{ended-idle, one-step, over-now, over-step}
 
 -- the state behind one event more
 pub state-more : (x : State) (es : List Event) (e : Event) → state_after x (es ++ e ∷ []) ≡ change (state_after x es) e

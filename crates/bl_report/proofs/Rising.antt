@@ -1,5 +1,5 @@
 -- The items rise by event.
-use Rattle.std.proofs.Common.{◌≡◌, ℕ, zero, suc, ◌+◌, ◌≤◌, ◌<◌, Bool, true, false, cond, List, [], ◌∷◌, ◌++◌, length, map, refl, sym, ◌∙◌, ap, subst, arith, length-append, Option, Some, None}
+use Rattle.std.proofs.Common.{◌≡◌, ℕ, suc, ◌+◌, ◌≤◌, Bool, true, false, cond, List, [], ◌∷◌, ◌++◌, length, map, refl, arith, length-append, Option, Some, None}
 use Rattle.std.specs.Prelude.{option_map, option_to_list}
 use Rattle.bl_policy.specs.declared.access.Access.{Access}
 use Rattle.bl_policy.specs.declared.denial.Clause.{Clause}
@@ -7,14 +7,14 @@ use Rattle.bl_work.specs.Modes.{alters}
 use Rattle.bl_work.specs.declared.answer.Answer.{Answer}
 use Rattle.bl_work.specs.declared.answer.Answer.TheVariants as answer
 use Rattle.bl_setup.specs.Setup.{Setup}
-use Rattle.bl_order.specs.Order.{Entry, Line, Task, Runs, Applies, accesses_of}
+use Rattle.bl_order.specs.Order.{Entry, Task, Runs, Applies, accesses_of}
 use Rattle.bl_order.specs.Past.{Past}
-use Rattle.bl_order.specs.Machine.{State, Event, Opens, Admits, Starts, Ends, Loses, children_at, past_at, session_at}
+use Rattle.bl_order.specs.Machine.{State, Event, Opens, Admits, Starts, Ends, Loses, children_at, past_at}
 use Rattle.bl_hall.specs.Chronicle.{Chronicle, state_now, with_event}
 use Rattle.bl_report.specs.Items.{altering, entering, item_of, items_at, judged_at, report_items, right_since, starting, told, unbegun, ended_at}
 use Rattle.bl_report.specs.Whole.{RiseBetween}
 use Rattle.bl_report.specs.declared.item.Blame.{Blame}
-use Rattle.bl_report.specs.declared.item.Happening.TheVariants.{Held, Denied, Done}
+use Rattle.bl_report.specs.declared.item.Happening.TheVariants.{Held, Denied}
 use Rattle.bl_report.specs.declared.item.ReportItem.{ReportItem}
 
 -- all items are of this event

@@ -1,5 +1,5 @@
 -- What trust adds to what is granted.
-use Rattle.std.proofs.Common.{◌≡◌, ℕ, ◌<◌, Bool, true, false, ◌&&◌, length, refl, sym, ◌∙◌, ap, true≢false, get_or-set_same, Option, Some, None}
+use Rattle.std.proofs.Common.{◌≡◌, ℕ, ◌<◌, false, ◌&&◌, length, refl, sym, ◌∙◌, ap, true≢false, get_or-set_same, Option, Some, None}
 use Rattle.std.specs.Prelude.{◌↔◌, is_none, is_some}
 use Rattle.bl_level.specs.Level.{SecurityLevel}
 use Rattle.bl_policy.specs.declared.access.Access.{Access}

@@ -1,5 +1,5 @@
 -- What a start that is done is granted.
-use Rattle.std.specs.Prelude.{◌≡◌, ℕ, map, All, List, Option}
+use Rattle.std.specs.Prelude.{◌≡◌, ℕ, map, All, Option}
 use Rattle.bl_policy.specs.declared.access.Access.{Access}
 use Rattle.bl_policy.specs.Properties.{IsGranted}
 use Rattle.bl_order.specs.Order.{accesses_of}
@@ -8,7 +8,6 @@ use Rattle.bl_order.specs.Now.{policy_now}
 use Rattle.bl_explain.specs.Grounds.{grounds_of}
 use Rattle.bl_report.specs.Items.{items_at}
 use Rattle.bl_report.specs.declared.item.Happening.TheVariants.{Held}
-use Rattle.bl_report.specs.declared.item.JudgedAccess.{JudgedAccess}
 use Rattle.bl_report.specs.declared.item.ReportItem.{ReportItem}
 
 module _ (until : ℕ → Option ℕ) (since : ℕ → Access → Option ℕ) (x : State) (number n : ℕ) where

@@ -1,5 +1,5 @@
 -- What is told of the events of a run: one list of items, in the order of the events.
-use Rattle.std.specs.Prelude.{ℕ, zero, suc, ◌+◌, Bool, true, false, ◌==◌, if◌then◌else◌, is_some, List, [], ◌∷◌, ◌++◌, count_by, length, map, Option, Some, None, option_map, option_to_list}
+use Rattle.std.specs.Prelude.{ℕ, zero, suc, ◌+◌, Bool, false, ◌==◌, if◌then◌else◌, is_some, List, [], ◌∷◌, ◌++◌, count_by, length, map, Option, Some, None, option_map, option_to_list}
 use Rattle.bl_level.specs.Level.{SecurityLevel}
 use Rattle.bl_policy.specs.declared.access.Access.{Access}
 use Rattle.bl_policy.specs.declared.access.Mode.TheVariants.{Read, Append, Write}

@@ -1,5 +1,5 @@
 -- What is held at a moment, as the items tell it.
-use Rattle.std.specs.Prelude.{◌≡◌, ℕ, zero, suc, Bool, true, ◌&&◌, ◌==◌, if◌then◌else◌, nat_le, nat_lt, List, [], ◌∷◌, ◌++◌, map, Option, Some, None}
+use Rattle.std.specs.Prelude.{ℕ, zero, suc, Bool, true, ◌&&◌, ◌==◌, if◌then◌else◌, nat_le, nat_lt, List, [], ◌∷◌, ◌++◌, map, Option, Some, None}
 use Rattle.bl_policy.specs.declared.access.Access.{Access}
 use Rattle.bl_order.specs.Machine.{Hold, State, past_at, runs}
 use Rattle.bl_order.specs.Order.{accesses_of}
