@@ -6,6 +6,7 @@ ghost use Rattle.bl_order.specs.Machine.{State, entry_weight, past_at};
 ghost use Rattle.bl_order.specs.Now.{policy_now};
 ghost use Rattle.bl_order.specs.Order.{Applies, accesses_of, is_rule};
 ghost use Rattle.bl_order.specs.Past.{no_entry};
+ghost use Rattle.bl_core.specs.Origins.{origin_of};
 ghost use Rattle.bl_report.specs.Items.{blame_of, former_of, judged_of, modes_of, rights_below};
 ghost use Rattle.bl_teller.specs.Keeping.{AreLengths};
 ghost use Rattle.bl_teller.specs.Rights.{table_of};
@@ -14,6 +15,7 @@ ghost use Rattle.bl_teller.specs.Scenes.{HasPlaceOf, changed_by, denied_by, held
 use crate::register::{Register, alters, content_length};
 use crate::rights::has;
 use bl_core::machine::Core;
+use bl_core::origin::Origin;
 use bl_core::session::SessionNo;
 use bl_explain::grounds::Grounds;
 use bl_explain::laws::what_fails_first_decides;
@@ -49,6 +51,17 @@ fn weight(core: &Core, n: u32) -> u32
         Some(Work::Behaviour(script)) => script.weight() as u32,
         Some(Work::Rule(_)) => 1,
         None => 0,
+    }
+}
+
+/// Where an entry comes from.
+fn origin(core: &Core, n: u32) -> Origin
+    requires { n < length core.now.order }
+    ensures { result ≡ origin_of (slice_index_or core.now.order n no_entry) }
+{
+    match core.origin(n) {
+        Some(origin) => origin,
+        None => unreachable!(),
     }
 }
 
@@ -131,9 +144,7 @@ impl<'a> Scene<'a> {
         items: &mut Vec<ReportItem>,
     ) -> Result<(), AllocError> {
         for place in self.register.tenures.len() as u32..self.core.entries() {
-            let Some(origin) = self.core.origin(place) else {
-                unreachable!()
-            };
+            let origin = origin(self.core, place);
             let weight = weight(self.core, place);
             items.push(self.item(
                 subject,
@@ -200,8 +211,13 @@ impl<'a> Scene<'a> {
         match self.core.behaviour(place) {
             Some((script, index)) => {
                 let accesses = script.accesses(index);
-                let refused = first_refused(policy, subject, carried, accesses)?;
-                Some(Blame::OfAccess(self.judged(subject, carried, &accesses[refused.place])))
+                match first_refused(policy, subject, carried, accesses) {
+                    Some(refused) => {
+                        let access = &accesses[refused.place];
+                        Some(Blame::OfAccess(self.judged(subject, carried, access)))
+                    }
+                    None => None,
+                }
             }
             None => match self.core.work(place) {
                 Some(Work::Rule(rule)) => Some(Blame::OfRule {
