@@ -1,3 +1,4 @@
 pub mod Rights
 pub mod Keeping
 pub mod Scenes
+pub mod Reports

@@ -9,6 +9,7 @@
 #![tactic(auto)]
 
 mod register;
+pub mod report;
 mod rights;
 mod scene;
 mod teller;

@@ -1,0 +1,91 @@
+//! The report of a text.
+use crate::teller::Teller;
+use bl_rebuild::fault::RebuildFault;
+use bl_rebuild::follower::Follower;
+use bl_rebuild::rebuild::Rebuilt;
+use bl_report::report::{Report, ReportEnd};
+use bl_setup::setup::Setup;
+use bl_trail::follow::first_line;
+use std::alloc::{AllocError, Global};
+
+/// How a trail ends behind so many events that are right, by what stands there.
+fn end_of(rest: &[u8], count: u64) -> ReportEnd {
+    let Some((line, behind)) = first_line(rest) else {
+        return ReportEnd::Open(rest.len());
+    };
+    if line != b"stop".as_slice() {
+        return ReportEnd::Wrong(count + 3);
+    }
+    if behind.is_empty() {
+        return ReportEnd::Closed;
+    }
+    ReportEnd::Wrong(count + 4)
+}
+
+/// Follows a text as far as it is right, and tells each event.
+fn follow_far(follower: &mut Follower<'_>, teller: &mut Teller) -> Result<(), AllocError> {
+    'lines: loop {
+        if !follower.take()? {
+            return Ok(());
+        }
+        teller.tell(follower.hall())?;
+    }
+}
+
+/// The report of what was followed.
+fn close(follower: Follower<'_>, teller: Teller) -> Result<Report, AllocError> {
+    let count = follower.hall().trail().len() as u64;
+    let end = end_of(follower.rest(), count);
+    match follower.close() {
+        Ok(
+            Rebuilt {
+                hall,
+                running,
+                right,
+            },
+        ) => {
+            drop(running);
+            Ok(Report {
+                hall,
+                items: teller.into_items(),
+                right,
+                end,
+            })
+        }
+        Err(refused) => {
+            drop(teller);
+            Err(refused)
+        }
+    }
+}
+
+/// The report of a text that its follower stands before.
+fn report_on(follower: Follower<'_>, teller: Teller) -> Result<Report, AllocError> {
+    let mut follower = follower;
+    let mut teller = teller;
+    match follow_far(&mut follower, &mut teller) {
+        Ok(()) => close(follower, teller),
+        Err(refused) => {
+            drop(follower);
+            drop(teller);
+            Err(refused)
+        }
+    }
+}
+
+/// What a trail's text tells, over the setup that it began with: an open or torn trail is told up to where it is right.
+/// `Head` comes where the head is not right, `OldVersion` for a trail of version 1, and `Memory` only where a growth is
+/// refused.
+pub fn report(alloc: Global, setup: &Setup, text: &[u8]) -> Result<Report, RebuildFault> {
+    let teller = Teller::new(alloc, setup)?;
+    match Follower::begin(alloc, setup, text) {
+        Ok(follower) => {
+            let report = report_on(follower, teller)?;
+            Ok(report)
+        }
+        Err(fault) => {
+            drop(teller);
+            Err(fault)
+        }
+    }
+}
