@@ -6,3 +6,4 @@ pub mod Granted
 pub mod Exemption
 pub mod Ways
 pub mod Whole
+pub mod Closing

@@ -1,4 +1,7 @@
 //! The items of a report: what is told of each event of a trail.
+ghost use Rattle.std.specs.Prelude.{◌≡◌};
+ghost use Rattle.bl_report.specs.Closing.{held_place, with_until};
+
 use bl_core::origin::Origin;
 use bl_core::session::SessionNo;
 use bl_explain::grounds::Grounds;
@@ -134,4 +137,107 @@ pub enum Former {
         /// How many rights went with it: of each subject each mode that the matrix had for it.
         rights: usize,
     },
+}
+
+impl Happening {
+    /// What the opening of a session did.
+    pub fn opened(session: SessionNo) -> Happening
+        ensures { result ≡ Happening.Opened session }
+    {
+        Happening::Opened { session }
+    }
+
+    /// What an entry did that entered the order.
+    pub fn admitted(place: u32, origin: Origin, weight: u32) -> Happening
+        ensures { result ≡ Happening.Admitted place origin weight }
+    {
+        Happening::Admitted {
+            place,
+            origin,
+            weight,
+        }
+    }
+
+    /// What a granted access did, of which nobody says yet until when it is held.
+    pub fn held(place: u32, judged: JudgedAccess) -> Happening
+        ensures { result ≡ Happening.Held place judged None }
+    {
+        Happening::Held {
+            place,
+            judged,
+            until: None,
+        }
+    }
+
+    /// What a denied start did.
+    pub fn denied(place: u32, clause: Clause, blame: Blame) -> Happening
+        ensures { result ≡ Happening.Denied place clause blame }
+    {
+        Happening::Denied {
+            place,
+            clause,
+            blame,
+        }
+    }
+
+    /// What a rule did that is done.
+    pub fn changed(place: u32, rule: Rule, before: Former) -> Happening
+        ensures { result ≡ Happening.Changed place rule before }
+    {
+        Happening::Changed {
+            place,
+            rule,
+            before,
+        }
+    }
+
+    /// What an access did that alters its document.
+    pub fn altered(place: u32, access: Access, before: usize, after: usize) -> Happening
+        ensures { result ≡ Happening.Altered place access before after }
+    {
+        Happening::Altered {
+            place,
+            access,
+            before,
+            after,
+        }
+    }
+
+    /// What the end of a behaviour did.
+    pub fn done(place: u32) -> Happening
+        ensures { result ≡ Happening.Done place }
+    {
+        Happening::Done { place }
+    }
+
+    /// What a loss did.
+    pub fn lost(place: u32, ran: bool) -> Happening
+        ensures { result ≡ Happening.Lost place ran }
+    {
+        Happening::Lost { place, ran }
+    }
+
+    /// The place that holds an access, of what tells that; none of anything else.
+    pub fn held_place(&self) -> Option<u32>
+        ensures { result ≡ held_place self.now }
+    {
+        match *self {
+            Happening::Held { place, .. } => Some(place),
+            _ => None,
+        }
+    }
+
+    /// The same with the event from which on an access is no more held, of what tells that it is held.
+    pub fn with_until(&self, until: Option<u32>) -> Happening
+        ensures { result ≡ with_until until self.now }
+    {
+        match *self {
+            Happening::Held { place, judged, .. } => Happening::Held {
+                place,
+                judged,
+                until,
+            },
+            _ => *self,
+        }
+    }
 }

@@ -1,3 +1,4 @@
 pub mod Tables
 pub mod Known
 pub mod Blaming
+pub mod Following

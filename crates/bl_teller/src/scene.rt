@@ -1,21 +1,19 @@
 //! What an event did: by what was kept before it, and by the hall behind it.
-ghost use Rattle.std.specs.Prelude.{◌≡◌, ◌<◌, ◌≤◌, ◌++◌, ◌∷◌, [], OnOk, length, map, option_map, option_to_list, slice_index_or, true};
+ghost use Rattle.std.specs.Prelude.{◌↔◌, IfSome, IsSome, ◌≡◌, ◌<◌, ◌≤◌, ◌++◌, ◌∷◌, [], OnOk, length, map, option_map, option_to_list, slice_index_or, true};
 ghost use Rattle.bl_policy.specs.RuleEffect.{IsRuleOf};
 ghost use Rattle.bl_policy.specs.declared.rule.Rule.{Rule as AnyRule};
 ghost use Rattle.bl_order.specs.Machine.{State, entry_weight, past_at};
 ghost use Rattle.bl_order.specs.Now.{policy_now};
 ghost use Rattle.bl_order.specs.Order.{Applies, accesses_of, is_rule};
 ghost use Rattle.bl_order.specs.Past.{no_entry};
-ghost use Rattle.bl_core.specs.Origins.{origin_of};
 ghost use Rattle.bl_report.specs.Items.{blame_of, former_of, judged_of, modes_of, rights_below};
-ghost use Rattle.bl_teller.specs.Keeping.{AreLengths};
+ghost use Rattle.bl_teller.specs.Keeping.{AreLengths, Fits};
 ghost use Rattle.bl_teller.specs.Rights.{table_of};
 ghost use Rattle.bl_teller.specs.Scenes.{HasPlaceOf, changed_by, denied_by, held_by};
 
 use crate::register::{Register, alters, content_length};
 use crate::rights::has;
 use bl_core::machine::Core;
-use bl_core::origin::Origin;
 use bl_core::session::SessionNo;
 use bl_explain::grounds::Grounds;
 use bl_explain::laws::what_fails_first_decides;
@@ -23,7 +21,7 @@ use bl_explain::rules::RuleGrounds;
 use bl_explain::several::first_refused;
 use bl_hall::event::Event;
 use bl_level::level::Level;
-use bl_order::laws::{each_state_holds, tasks_are_of_scripts};
+use bl_order::laws::{lines_are_readable, read_lines_are_in_the_setup, tasks_are_of_scripts};
 use bl_policy::access::{Access, Mode};
 use bl_policy::denial::Clause;
 use bl_policy::id::{DocId, SubjectId};
@@ -51,17 +49,6 @@ fn weight(core: &Core, n: u32) -> u32
         Some(Work::Behaviour(script)) => script.weight() as u32,
         Some(Work::Rule(_)) => 1,
         None => 0,
-    }
-}
-
-/// Where an entry comes from.
-fn origin(core: &Core, n: u32) -> Origin
-    requires { n < length core.now.order }
-    ensures { result ≡ origin_of (slice_index_or core.now.order n no_entry) }
-{
-    match core.origin(n) {
-        Some(origin) => origin,
-        None => unreachable!(),
     }
 }
 
@@ -123,6 +110,24 @@ impl<'a> Scene<'a> {
         }
     }
 
+    /// For whom a place speaks; none where there is no such place.
+    fn speaker(&self, place: u32) -> Option<SubjectId>
+        requires { Fits self.now.core.now.setup self.now.register.now }
+        ensures value { IfSome result (λ subject. subject ≡ (past_at self.now.core.now place).subject) }
+        ensures has { IfSome result (HasPlaceOf self.now place) }
+        ensures some { IsSome result ↔ place < length self.now.core.now.order }
+    {
+        lines_are_readable();
+        read_lines_are_in_the_setup();
+        // asked for the proof alone: what a place names is in the setup
+        let _policy = self.core.policy();
+        let _setup = self.core.setup().policy();
+        match self.core.subject(place) {
+            Some(subject) => Some(subject),
+            None => None,
+        }
+    }
+
     /// An access, and by what it is judged.
     fn judged(&self, subject: SubjectId, carried: &Level, access: &Access) -> JudgedAccess
         requires known { subject < length self.now.register.now.policy.subjects }
@@ -143,16 +148,14 @@ impl<'a> Scene<'a> {
         subject: SubjectId,
         items: &mut Vec<ReportItem>,
     ) -> Result<(), AllocError> {
-        for place in self.register.tenures.len() as u32..self.core.entries() {
-            let origin = origin(self.core, place);
+        for place in self.register.entered..self.core.entries() {
+            let Some(origin) = self.core.origin(place) else {
+                return Ok(());
+            };
             let weight = weight(self.core, place);
             items.push(self.item(
                 subject,
-                Happening::Admitted {
-                    place,
-                    origin,
-                    weight,
-                },
+                Happening::admitted(place, origin, weight),
             ))?;
         }
         Ok(())
@@ -160,8 +163,7 @@ impl<'a> Scene<'a> {
 
     /// What is told of a line.
     fn tell_line(&self, items: &mut Vec<ReportItem>) -> Result<(), AllocError> {
-        let place = self.register.tenures.len() as u32;
-        match self.core.subject(place) {
+        match self.core.subject(self.register.entered) {
             Some(subject) => self.tell_entering(subject, items),
             None => Ok(()),
         }
@@ -185,15 +187,7 @@ impl<'a> Scene<'a> {
         };
         for access in script.accesses(index) {
             let judged = self.judged(subject, carried, access);
-            let until = None;
-            items.push(self.item(
-                subject,
-                Happening::Held {
-                    place,
-                    judged,
-                    until,
-                },
-            ))?;
+            items.push(self.item(subject, Happening::held(place, judged)))?;
         }
         Ok(())
     }
@@ -205,8 +199,9 @@ impl<'a> Scene<'a> {
             (table_of self.now.register.now.rights subject) (past_at self.now.core.now place).task }
     {
         tasks_are_of_scripts();
-        each_state_holds();
         what_fails_first_decides();
+        // asked for the proof alone: what holds of the core
+        let _policy = self.core.policy();
         let policy = &self.register.policy;
         match self.core.behaviour(place) {
             Some((script, index)) => {
@@ -246,14 +241,7 @@ impl<'a> Scene<'a> {
     {
         match self.blame(place, subject, carried) {
             Some(blame) => {
-                items.push(self.item(
-                    subject,
-                    Happening::Denied {
-                        place,
-                        clause,
-                        blame,
-                    },
-                ))?;
+                items.push(self.item(subject, Happening::denied(place, clause, blame)))?;
                 Ok(())
             }
             None => Ok(()),
@@ -296,19 +284,13 @@ impl<'a> Scene<'a> {
             → AreLengths x self.now.register.now.lengths.items → (past_at self.now.core.now place).task ≡ Applies rule
             → items.new.items ≡ items.old.items ++ changed_by self.now place subject rule (former_of x subject rule) ∷ []) }
     {
-        each_state_holds();
+        // asked for the proof alone: what holds of the core
+        let _policy = self.core.policy();
         match self.core.work(place) {
             Some(Work::Rule(rule)) => {
                 let before = self.former(subject, rule);
                 let rule = *rule;
-                items.push(self.item(
-                    subject,
-                    Happening::Changed {
-                        place,
-                        rule,
-                        before,
-                    },
-                ))?;
+                items.push(self.item(subject, Happening::changed(place, rule, before)))?;
                 Ok(())
             }
             Some(Work::Behaviour(_)) | None => Ok(()),
@@ -316,8 +298,10 @@ impl<'a> Scene<'a> {
     }
 
     /// What is told of a start.
-    fn tell_start(&self, n: u32, items: &mut Vec<ReportItem>) -> Result<(), AllocError> {
-        let Some(subject) = self.core.subject(n) else {
+    fn tell_start(&self, n: u32, items: &mut Vec<ReportItem>) -> Result<(), AllocError>
+        requires { Fits self.now.core.now.setup self.now.register.now }
+    {
+        let Some(subject) = self.speaker(n) else {
             return Ok(());
         };
         let Some(carried) = self.core.carried(n) else {
@@ -347,17 +331,11 @@ impl<'a> Scene<'a> {
     ) -> Result<(), AllocError> {
         for access in accesses {
             if alters(access) {
-                let before = self.register.lengths[usize::from(access.doc.position())];
+                let before = self.register.length(access.doc);
                 let after = content_length(self.core, access.doc);
-                let access = *access;
                 items.push(self.item(
                     subject,
-                    Happening::Altered {
-                        place,
-                        access,
-                        before,
-                        after,
-                    },
+                    Happening::altered(place, *access, before, after),
                 ))?;
             }
         }
@@ -365,14 +343,17 @@ impl<'a> Scene<'a> {
     }
 
     /// What is told of an end.
-    fn tell_end(&self, place: u32, items: &mut Vec<ReportItem>) -> Result<(), AllocError> {
-        let Some(subject) = self.core.subject(place) else {
+    fn tell_end(&self, place: u32, items: &mut Vec<ReportItem>) -> Result<(), AllocError>
+        requires { Fits self.now.core.now.setup self.now.register.now }
+    {
+        tasks_are_of_scripts();
+        let Some(subject) = self.speaker(place) else {
             return Ok(());
         };
         if let Some((script, index)) = self.core.behaviour(place) {
             self.tell_altered(place, subject, script.accesses(index), items)?;
         }
-        items.push(self.item(subject, Happening::Done { place }))?;
+        items.push(self.item(subject, Happening::done(place)))?;
         self.tell_entering(subject, items)
     }
 
@@ -381,17 +362,19 @@ impl<'a> Scene<'a> {
         let Some(subject) = self.core.subject(place) else {
             return Ok(());
         };
-        let ran = self.register.tenures[place as usize].runs;
-        items.push(self.item(subject, Happening::Lost { place, ran }))?;
+        let ran = self.register.ran(place);
+        items.push(self.item(subject, Happening::lost(place, ran)))?;
         Ok(())
     }
 
     /// What is told of this event. An error comes only where a growth is refused.
-    pub(crate) fn tell(&self, event: Event, items: &mut Vec<ReportItem>) -> Result<(), AllocError> {
+    pub(crate) fn tell(&self, event: Event, items: &mut Vec<ReportItem>) -> Result<(), AllocError>
+        requires { Fits self.now.core.now.setup self.now.register.now }
+    {
         match event {
             Event::Open(subject) => {
                 let session = SessionNo::new(self.register.sessions);
-                items.push(self.item(subject, Happening::Opened { session }))?;
+                items.push(self.item(subject, Happening::opened(session)))?;
                 Ok(())
             }
             Event::Line { .. } => self.tell_line(items),

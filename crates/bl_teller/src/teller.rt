@@ -1,9 +1,14 @@
 //! What notes each event of a run.
+ghost use Rattle.std.specs.Prelude.{◌≡◌, ◌<◌, ◌^◌, ℕ, IfOk, OnOk};
+ghost use Rattle.bl_order.specs.Machine.{Event as AnyEvent, Needs, start};
+ghost use Rattle.bl_hall.specs.Chronicle.{Chronicle, state_now, with_event};
+ghost use Rattle.bl_teller.specs.Keeping.{KeepsState};
+
 use crate::register::Register;
 use crate::scene::Scene;
 use crate::tenure::Tenure;
 use bl_hall::hall::Hall;
-use bl_report::item::{Happening, ReportItem};
+use bl_report::item::ReportItem;
 use bl_setup::setup::Setup;
 use std::alloc::{AllocError, Global};
 
@@ -12,6 +17,16 @@ use std::alloc::{AllocError, Global};
 pub(crate) struct Teller {
     register: Register,
     items: Vec<ReportItem>,
+}
+
+/// The number of the last of so many events.
+fn number_of(events: usize) -> u32
+    ensures { events < 2 ^ 32 → result ≡ events }
+{
+    match u32::try_from(events) {
+        Ok(number) => number,
+        Err(_) => u32::MAX,
+    }
 }
 
 /// Which event ended a place; none where it has not ended.
@@ -24,17 +39,13 @@ fn ended(tenures: &[Tenure], place: u32) -> Option<u32> {
 
 /// The item, with the end of what it tells to be held.
 fn closed(item: &ReportItem, tenures: &[Tenure]) -> ReportItem {
-    match item.happening {
-        Happening::Held { place, judged, .. } => ReportItem {
+    match item.happening.held_place() {
+        Some(place) => ReportItem {
             event: item.event,
             subject: item.subject,
-            happening: Happening::Held {
-                place,
-                judged,
-                until: ended(tenures, place),
-            },
+            happening: item.happening.with_until(ended(tenures, place)),
         },
-        _ => *item,
+        None => *item,
     }
 }
 
@@ -47,7 +58,9 @@ fn close_all(items: &mut [ReportItem], tenures: &[Tenure]) {
 
 impl Teller {
     /// Nothing was told of a run over this setup, in which nothing has happened.
-    pub(crate) fn new(alloc: Global, setup: &Setup) -> Result<Teller, AllocError> {
+    pub(crate) fn new(alloc: Global, setup: &Setup) -> Result<Teller, AllocError>
+        ensures { IfOk result (λ teller. (limit : ℕ) → KeepsState (start setup.now limit) teller.register) }
+    {
         let register = Register::new(alloc, setup)?;
         Ok(Teller {
             register,
@@ -56,8 +69,12 @@ impl Teller {
     }
 
     /// Tells the last event of a hall, of which all before it was told. An error comes only where a growth is refused.
-    pub(crate) fn tell(&mut self, hall: &Hall) -> Result<(), AllocError> {
-        let number = hall.trail().len() as u32;
+    pub(crate) fn tell(&mut self, hall: &Hall) -> Result<(), AllocError>
+        requires { (h : Chronicle) × (e : AnyEvent) × (hall.now ≡ with_event h e) × Needs (state_now h) e
+            × KeepsState (state_now h) self.old.register }
+        ensures { OnOk result (KeepsState (state_now hall.now) self.new.register) }
+    {
+        let number = number_of(hall.trail().len());
         let Some(event) = hall.trail().last() else {
             return Ok(());
         };
@@ -67,14 +84,14 @@ impl Teller {
             number,
         };
         scene.tell(*event, &mut self.items)?;
-        self.register.follow(hall, number)
+        self.register.follow(hall.core(), *event, number)
     }
 
     /// What was told, with the end of what is held.
     pub(crate) fn into_items(self) -> Vec<ReportItem> {
         let Teller { register, items } = self;
         let mut items = items;
-        close_all(&mut items, &register.tenures);
+        close_all(items.as_mut_slice(), register.tenures.as_slice());
         drop(register);
         items
     }
