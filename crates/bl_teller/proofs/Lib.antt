@@ -1,4 +1,2 @@
 pub mod Tables
-pub mod Known
-pub mod Blaming
-pub mod Following
+pub mod Reporting

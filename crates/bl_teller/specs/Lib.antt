@@ -1,4 +1,3 @@
 pub mod Rights
 pub mod Keeping
-pub mod Scenes
 pub mod Reports

@@ -1,20 +1,19 @@
 //! What is kept of a run beside its hall: what the next event finds, where the hall behind it tells no more of that.
-ghost use Rattle.std.specs.Prelude.{◌≡◌, ◌<◌, ℕ, IfOk, OnOk, IsTrue, length, map, slice_index_or};
+ghost use Rattle.std.specs.Prelude.{◌≡◌, ◌<◌, ℕ, IfOk, IsTrue, length, map, slice_index_or};
+ghost use Rattle.bl_policy.specs.RuleEffect.{IsRuleOf};
 ghost use Rattle.bl_work.specs.Modes.{alters};
-ghost use Rattle.bl_work.specs.declared.answer.Answer.TheVariants.{RuleDone};
-ghost use Rattle.bl_order.specs.Machine.{Event as AnyEvent, Ends, Starts, State, past_at, runs, start};
+ghost use Rattle.bl_order.specs.Machine.{past_at, runs};
 ghost use Rattle.bl_order.specs.Order.{accesses_of, is_altered};
-ghost use Rattle.bl_order.specs.Now.{content_now, policy_now};
-ghost use Rattle.bl_hall.specs.Chronicle.{kept_of};
-ghost use Rattle.bl_teller.specs.Keeping.{Fits, Follows, KeepsState, tenure_at};
+ghost use Rattle.bl_order.specs.Now.{content_now};
+ghost use Rattle.bl_teller.specs.Keeping.{tenure_at};
 
 use crate::rights::RightsSince;
+use crate::scene::declared;
 use crate::tenure::{Tenure, UNBEGUN};
 use bl_core::machine::Core;
 use bl_hall::event::Event;
-use bl_order::laws::{each_state_holds, events_move_the_present, steps_lead_on, tasks_are_of_scripts};
 use bl_policy::access::{Access, Mode};
-use bl_policy::id::DocId;
+use bl_policy::id::{DocId, SubjectId};
 use bl_policy::policy::Policy;
 use bl_policy::rule::Rule;
 use bl_setup::setup::Setup;
@@ -41,13 +40,6 @@ fn enter(tenures: &mut Vec<Tenure>, entries: u32) -> Result<(), AllocError> {
         tenures.push(UNBEGUN)?;
     }
     Ok(())
-}
-
-/// Notes what became of a place.
-fn set_tenure(tenures: &mut Vec<Tenure>, place: u32, tenure: Tenure) {
-    if (place as usize) < tenures.len() {
-        tenures[place as usize] = tenure;
-    }
 }
 
 /// Notes how long a content is.
@@ -109,10 +101,7 @@ pub(crate) fn alters(access: &Access) -> bool
 
 impl Register {
     /// What is kept of a run over this setup in which nothing has happened.
-    pub(crate) fn new(alloc: Global, setup: &Setup) -> Result<Register, AllocError>
-        ensures { IfOk result (λ r. (limit : ℕ) → KeepsState (start setup.now limit) r) }
-    {
-        steps_lead_on();
+    pub(crate) fn new(alloc: Global, setup: &Setup) -> Result<Register, AllocError> {
         let policy = setup.policy().copy()?;
         let rights = RightsSince::new(alloc, policy.subjects())?;
         Ok(Register {
@@ -145,108 +134,94 @@ impl Register {
         }
     }
 
-    /// Notes the rule that a place applied, which is done.
-    fn apply(&mut self, core: &Core, event: u32, n: u32)
-        requires { (x : State) × KeepsState x self.old × Follows x (Starts n) core.now
-            × ((past_at x n).answer ≡ RuleDone) }
-        ensures fits { Fits core.now.setup self.new }
-        ensures policy { self.new.policy ≡ policy_now core.now }
-        ensures others { (self.new.sessions ≡ self.old.sessions) × (self.new.entered ≡ self.old.entered) }
+    /// Whether the policy has a subject.
+    pub(crate) fn has_subject(&self, subject: SubjectId) -> bool
+        ensures { IsTrue result → subject < length self.now.policy.subjects }
     {
-        each_state_holds();
-        events_move_the_present();
-        // asked for the proof alone: what holds of the core
-        let _setup = core.setup().policy();
-        let Some(speaker) = core.subject(n) else {
-            return;
-        };
-        if let Some(Work::Rule(rule)) = core.work(n) {
-            self.rights
-                .note_rule(event, &self.policy, core.policy(), rule);
-            self.policy.apply(speaker, rule);
-            if let Rule::Delete { doc } = *rule {
-                set_length(&mut self.lengths, doc, 0);
+        usize::from(subject.position()) < self.policy.subjects()
+    }
+
+    /// Whether the policy has a document.
+    pub(crate) fn has_document(&self, doc: DocId) -> bool
+        ensures { IsTrue result → doc < length self.now.policy.documents }
+    {
+        usize::from(doc.position()) < self.policy.documents()
+    }
+
+    /// Whether the policy has what a rule names.
+    pub(crate) fn has_ids(&self, rule: &Rule) -> bool
+        ensures { IsTrue result → IsRuleOf self.now.policy rule.now }
+    {
+        match *rule {
+            Rule::Give { subject, doc, .. } | Rule::Rescind { subject, doc, .. } => {
+                self.has_subject(subject) && self.has_document(doc)
+            }
+            Rule::Current { .. } => true,
+            Rule::Classify { doc, .. } | Rule::Create { doc } | Rule::Delete { doc } => {
+                self.has_document(doc)
             }
         }
+    }
+
+    /// Notes the rule of a subject, which is done.
+    fn apply(&mut self, event: u32, speaker: SubjectId, rule: &Rule) -> Result<(), AllocError> {
+        if !self.has_subject(speaker) || !self.has_ids(rule) {
+            return Ok(());
+        }
+        let before = self.policy.copy()?;
+        if self.policy.apply(speaker, rule).is_none() && self.rights.is_for(before.subjects()) {
+            self.rights.note_rule(event, &before, &self.policy, rule);
+        }
+        if let Rule::Delete { doc } = *rule {
+            set_length(&mut self.lengths, doc, 0);
+        }
+        Ok(())
     }
 
     /// Notes that a place was started.
-    fn start(&mut self, core: &Core, event: u32, n: u32)
-        requires { (x : State) × KeepsState x self.old × Follows x (Starts n) core.now }
-        ensures { KeepsState core.now self.new }
-    {
-        each_state_holds();
-        events_move_the_present();
-        steps_lead_on();
+    fn start(&mut self, core: &Core, event: u32, n: u32) -> Result<(), AllocError> {
         match core.answer(n) {
             None => {
-                let tenure = Tenure {
-                    runs: true,
-                    until: None,
-                };
-                set_tenure(&mut self.tenures, n, tenure);
+                self.set_tenure(n, true, None);
+                Ok(())
             }
-            Some(Answer::RuleDone) => self.apply(core, event, n),
-            Some(Answer::Done(_) | Answer::Denied(_) | Answer::Lost) => {}
+            Some(Answer::RuleDone) => match (core.subject(n), core.work(n)) {
+                (Some(speaker), Some(Work::Rule(rule))) => self.apply(event, speaker, rule),
+                _ => Ok(()),
+            },
+            Some(Answer::Done(_) | Answer::Denied(_) | Answer::Lost) => Ok(()),
         }
     }
 
-    /// Notes that a place has ended, or was lost.
-    fn close(&mut self, event: u32, n: u32)
-        ensures { (self.new.policy ≡ self.old.policy) × (self.new.rights ≡ self.old.rights)
-            × (self.new.lengths ≡ self.old.lengths) × (self.new.sessions ≡ self.old.sessions)
-            × (self.new.entered ≡ self.old.entered) }
-    {
-        let tenure = Tenure {
-            runs: false,
-            until: Some(event),
-        };
-        set_tenure(&mut self.tenures, n, tenure);
+    /// Notes what became of a place.
+    fn set_tenure(&mut self, place: u32, runs: bool, until: Option<u32>) {
+        if (place as usize) < self.tenures.len() {
+            self.tenures[place as usize] = Tenure { runs, until };
+        }
     }
 
-    /// Notes that a place has ended.
-    fn end(&mut self, core: &Core, event: u32, n: u32) -> Result<(), AllocError>
-        requires { (x : State) × KeepsState x self.old × Follows x (Ends n) core.now }
-        ensures { OnOk result (KeepsState core.now self.new) }
-    {
-        events_move_the_present();
-        steps_lead_on();
-        tasks_are_of_scripts();
-        // asked for the proof alone: what holds of the core
-        let _policy = core.policy();
-        if n < core.entries() {
-            if let Some((script, index)) = core.behaviour(n) {
-                alter(&mut self.lengths, core, script.accesses(index));
-            }
-        }
-        self.close(event, n);
+    /// Notes places up to the core's, which have not begun.
+    fn enter(&mut self, core: &Core) -> Result<(), AllocError> {
         self.entered = core.entries();
         enter(&mut self.tenures, core.entries())
     }
 
     /// Notes an event, which has this number, by the core behind it. An error comes only where a growth is refused.
-    pub(crate) fn follow(&mut self, core: &Core, event: Event, number: u32) -> Result<(), AllocError>
-        requires { (x : State) × (e : AnyEvent) × (event ≡ kept_of e) × KeepsState x self.old × Follows x e core.now }
-        ensures { OnOk result (KeepsState core.now self.new) }
-    {
-        events_move_the_present();
-        steps_lead_on();
+    pub(crate) fn follow(&mut self, core: &Core, event: Event, number: u32) -> Result<(), AllocError> {
         match event {
             Event::Open(_) => {
-                self.sessions += 1;
+                self.sessions = self.sessions.saturating_add(1);
                 Ok(())
             }
-            Event::Line { .. } => {
-                self.entered = core.entries();
-                enter(&mut self.tenures, core.entries())
+            Event::Line { .. } => self.enter(core),
+            Event::Start(n) => self.start(core, number, n),
+            Event::End(n) => {
+                alter(&mut self.lengths, core, declared(core, n));
+                self.set_tenure(n, false, Some(number));
+                self.enter(core)
             }
-            Event::Start(n) => {
-                self.start(core, number, n);
-                Ok(())
-            }
-            Event::End(n) => self.end(core, number, n),
             Event::Lost(n) => {
-                self.close(number, n);
+                self.set_tenure(n, false, Some(number));
                 Ok(())
             }
         }

@@ -1,5 +1,5 @@
 //! Since when each right is as it is.
-ghost use Rattle.std.specs.Prelude.{◌≡◌, ◌+◌, ◌*◌, ◌<◌, ◌≤◌, ℕ, None, IfOk, length};
+ghost use Rattle.std.specs.Prelude.{◌≡◌, ◌+◌, ◌*◌, ◌<◌, ◌≤◌, ℕ, None, IfOk, IsTrue, length};
 ghost use Rattle.bl_policy.specs.Limits.{most_documents, most_subjects};
 ghost use Rattle.bl_policy.specs.Mode.{place_of};
 ghost use Rattle.bl_policy.specs.Policy.{allows};
@@ -73,6 +73,14 @@ impl RightsSince {
             events.push(None)?;
         }
         Ok(RightsSince { events })
+    }
+
+    /// Whether the table is for so many subjects.
+    pub(crate) fn is_for(&self, subjects: usize) -> bool
+        requires { subjects ≤ most_subjects }
+        ensures { IsTrue result → length self.now.events.items ≡ 3 * (subjects * most_documents) }
+    {
+        self.events.len() == 3 * (subjects * MOST_DOCUMENTS)
     }
 
     /// Since when a right is as it is.

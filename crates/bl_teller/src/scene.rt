@@ -1,27 +1,24 @@
 //! What an event did: by what was kept before it, and by the hall behind it.
-ghost use Rattle.std.specs.Prelude.{◌↔◌, IfSome, IsSome, ◌≡◌, ◌<◌, ◌≤◌, ◌++◌, ◌∷◌, [], OnOk, length, map, option_map, option_to_list, slice_index_or, true};
+ghost use Rattle.std.specs.Prelude.{◌≡◌, ◌<◌, ◌≤◌, length, slice_index_or};
 ghost use Rattle.bl_policy.specs.RuleEffect.{IsRuleOf};
-ghost use Rattle.bl_policy.specs.declared.rule.Rule.{Rule as AnyRule};
 ghost use Rattle.bl_order.specs.Machine.{State, entry_weight, past_at};
 ghost use Rattle.bl_order.specs.Now.{policy_now};
-ghost use Rattle.bl_order.specs.Order.{Applies, accesses_of, is_rule};
+ghost use Rattle.bl_order.specs.Order.{accesses_of};
 ghost use Rattle.bl_order.specs.Past.{no_entry};
-ghost use Rattle.bl_report.specs.Items.{blame_of, former_of, judged_of, modes_of, rights_below};
-ghost use Rattle.bl_teller.specs.Keeping.{AreLengths, Fits};
+ghost use Rattle.bl_report.specs.Items.{former_of, judged_of, modes_of, rights_below};
+ghost use Rattle.bl_teller.specs.Keeping.{AreLengths};
 ghost use Rattle.bl_teller.specs.Rights.{table_of};
-ghost use Rattle.bl_teller.specs.Scenes.{HasPlaceOf, changed_by, denied_by, held_by};
 
 use crate::register::{Register, alters, content_length};
 use crate::rights::has;
 use bl_core::machine::Core;
 use bl_core::session::SessionNo;
 use bl_explain::grounds::Grounds;
-use bl_explain::laws::what_fails_first_decides;
 use bl_explain::rules::RuleGrounds;
-use bl_explain::several::first_refused;
+use bl_explain::tests::explain;
 use bl_hall::event::Event;
 use bl_level::level::Level;
-use bl_order::laws::{lines_are_readable, read_lines_are_in_the_setup, tasks_are_of_scripts};
+use bl_order::laws::tasks_are_of_scripts;
 use bl_policy::access::{Access, Mode};
 use bl_policy::denial::Clause;
 use bl_policy::id::{DocId, SubjectId};
@@ -38,6 +35,22 @@ pub(crate) struct Scene<'a> {
     pub(crate) register: &'a Register,
     pub(crate) core: &'a Core,
     pub(crate) number: u32,
+}
+
+/// The accesses that a place declares: none where there is no such place, and none of a rule.
+pub(crate) fn declared(core: &Core, place: u32) -> &[Access]
+    ensures { place < length core.now.order → result.now ≡ accesses_of (past_at core.now place).task }
+{
+    tasks_are_of_scripts();
+    // asked for the proof alone: the core is reached
+    let _policy = core.policy();
+    if place >= core.entries() {
+        return &[];
+    }
+    match core.behaviour(place) {
+        Some((script, index)) => script.accesses(index),
+        None => &[],
+    }
 }
 
 /// What an entry weighs: a child nothing.
@@ -110,24 +123,6 @@ impl<'a> Scene<'a> {
         }
     }
 
-    /// For whom a place speaks; none where there is no such place.
-    fn speaker(&self, place: u32) -> Option<SubjectId>
-        requires { Fits self.now.core.now.setup self.now.register.now }
-        ensures value { IfSome result (λ subject. subject ≡ (past_at self.now.core.now place).subject) }
-        ensures has { IfSome result (HasPlaceOf self.now place) }
-        ensures some { IsSome result ↔ place < length self.now.core.now.order }
-    {
-        lines_are_readable();
-        read_lines_are_in_the_setup();
-        // asked for the proof alone: what a place names is in the setup
-        let _policy = self.core.policy();
-        let _setup = self.core.setup().policy();
-        match self.core.subject(place) {
-            Some(subject) => Some(subject),
-            None => None,
-        }
-    }
-
     /// An access, and by what it is judged.
     fn judged(&self, subject: SubjectId, carried: &Level, access: &Access) -> JudgedAccess
         requires known { subject < length self.now.register.now.policy.subjects }
@@ -177,50 +172,53 @@ impl<'a> Scene<'a> {
         carried: &Level,
         items: &mut Vec<ReportItem>,
     ) -> Result<(), AllocError>
-        requires { HasPlaceOf self.now place subject }
-        ensures { OnOk result (items.new.items ≡ items.old.items
-            ++ map (held_by self.now place subject carried.now) (accesses_of (past_at self.now.core.now place).task)) }
+        requires { subject < length self.now.register.now.policy.subjects }
     {
-        tasks_are_of_scripts();
-        let Some((script, index)) = self.core.behaviour(place) else {
-            return Ok(());
-        };
-        for access in script.accesses(index) {
-            let judged = self.judged(subject, carried, access);
-            items.push(self.item(subject, Happening::held(place, judged)))?;
+        for access in declared(self.core, place) {
+            if self.register.has_document(access.doc) {
+                let judged = self.judged(subject, carried, access);
+                items.push(self.item(subject, Happening::held(place, judged)))?;
+            }
         }
         Ok(())
     }
 
-    /// What is to blame for the denial of a place.
-    fn blame(&self, place: u32, subject: SubjectId, carried: &Level) -> Option<Blame>
-        requires { HasPlaceOf self.now place subject }
-        ensures { result ≡ blame_of self.now.register.now.policy subject carried.now
-            (table_of self.now.register.now.rights subject) (past_at self.now.core.now place).task }
+    /// The first access of a behaviour that is not granted.
+    fn first_blamed(&self, subject: SubjectId, carried: &Level, accesses: &[Access]) -> Option<Blame>
+        requires { subject < length self.now.register.now.policy.subjects }
     {
-        tasks_are_of_scripts();
-        what_fails_first_decides();
-        // asked for the proof alone: what holds of the core
-        let _policy = self.core.policy();
-        let policy = &self.register.policy;
-        match self.core.behaviour(place) {
-            Some((script, index)) => {
-                let accesses = script.accesses(index);
-                match first_refused(policy, subject, carried, accesses) {
-                    Some(refused) => {
-                        let access = &accesses[refused.place];
-                        Some(Blame::OfAccess(self.judged(subject, carried, access)))
-                    }
-                    None => None,
+        for access in accesses {
+            if self.register.has_document(access.doc) {
+                let judged = self.judged(subject, carried, access);
+                if explain(&self.register.policy, subject, carried, access)
+                    .fails_first()
+                    .is_some()
+                {
+                    return Some(Blame::OfAccess(judged));
                 }
             }
-            None => match self.core.work(place) {
-                Some(Work::Rule(rule)) => Some(Blame::OfRule {
+        }
+        None
+    }
+
+    /// What is to blame for the denial of a place.
+    fn blame(&self, place: u32, subject: SubjectId, carried: &Level) -> Option<Blame>
+        requires { subject < length self.now.register.now.policy.subjects }
+    {
+        match self.core.work(place) {
+            Some(Work::Rule(rule)) => {
+                if !self.register.has_ids(rule) {
+                    return None;
+                }
+                let grounds = RuleGrounds::of(&self.register.policy, subject, rule);
+                Some(Blame::OfRule {
                     rule: *rule,
-                    grounds: RuleGrounds::of(policy, subject, rule),
-                }),
-                Some(Work::Behaviour(_)) | None => None,
-            },
+                    grounds,
+                })
+            }
+            Some(Work::Behaviour(_)) | None => {
+                self.first_blamed(subject, carried, declared(self.core, place))
+            }
         }
     }
 
@@ -233,11 +231,7 @@ impl<'a> Scene<'a> {
         clause: Clause,
         items: &mut Vec<ReportItem>,
     ) -> Result<(), AllocError>
-        requires { HasPlaceOf self.now place subject }
-        ensures { OnOk result (items.new.items ≡ items.old.items ++ option_to_list (option_map
-            (denied_by self.now place subject clause)
-            (blame_of self.now.register.now.policy subject carried.now (table_of self.now.register.now.rights subject)
-            (past_at self.now.core.now place).task))) }
+        requires { subject < length self.now.register.now.policy.subjects }
     {
         match self.blame(place, subject, carried) {
             Some(blame) => {
@@ -252,8 +246,8 @@ impl<'a> Scene<'a> {
     fn former(&self, speaker: SubjectId, rule: &Rule) -> Former
         requires known { speaker < length self.now.register.now.policy.subjects }
         requires there { IsRuleOf self.now.register.now.policy rule.now }
-        requires lengths { length self.now.register.now.lengths.items ≡ length self.now.register.now.policy.documents }
         ensures { (x : State) → self.now.register.now.policy ≡ policy_now x
+            → length self.now.register.now.lengths.items ≡ length self.now.register.now.policy.documents
             → AreLengths x self.now.register.now.lengths.items → result ≡ former_of x speaker rule.now }
     {
         let policy = &self.register.policy;
@@ -265,7 +259,7 @@ impl<'a> Scene<'a> {
             Rule::Classify { doc, .. } => Former::Level(policy.level(doc)),
             Rule::Create { .. } => Former::Absent,
             Rule::Delete { doc } => Former::Present {
-                bytes: self.register.lengths[usize::from(doc.position())],
+                bytes: self.register.length(doc),
                 rights: rights_of(policy, doc),
             },
         }
@@ -278,19 +272,14 @@ impl<'a> Scene<'a> {
         subject: SubjectId,
         items: &mut Vec<ReportItem>,
     ) -> Result<(), AllocError>
-        requires place { HasPlaceOf self.now place subject }
-        requires rule { is_rule (past_at self.now.core.now place).task ≡ true }
-        ensures { OnOk result ((x : State) (rule : AnyRule) → self.now.register.now.policy ≡ policy_now x
-            → AreLengths x self.now.register.now.lengths.items → (past_at self.now.core.now place).task ≡ Applies rule
-            → items.new.items ≡ items.old.items ++ changed_by self.now place subject rule (former_of x subject rule) ∷ []) }
+        requires { subject < length self.now.register.now.policy.subjects }
     {
-        // asked for the proof alone: what holds of the core
-        let _policy = self.core.policy();
         match self.core.work(place) {
             Some(Work::Rule(rule)) => {
-                let before = self.former(subject, rule);
-                let rule = *rule;
-                items.push(self.item(subject, Happening::changed(place, rule, before)))?;
+                if self.register.has_ids(rule) {
+                    let before = self.former(subject, rule);
+                    items.push(self.item(subject, Happening::changed(place, *rule, before)))?;
+                }
                 Ok(())
             }
             Some(Work::Behaviour(_)) | None => Ok(()),
@@ -298,15 +287,16 @@ impl<'a> Scene<'a> {
     }
 
     /// What is told of a start.
-    fn tell_start(&self, n: u32, items: &mut Vec<ReportItem>) -> Result<(), AllocError>
-        requires { Fits self.now.core.now.setup self.now.register.now }
-    {
-        let Some(subject) = self.speaker(n) else {
+    fn tell_start(&self, n: u32, items: &mut Vec<ReportItem>) -> Result<(), AllocError> {
+        let Some(subject) = self.core.subject(n) else {
             return Ok(());
         };
         let Some(carried) = self.core.carried(n) else {
             return Ok(());
         };
+        if !self.register.has_subject(subject) {
+            return Ok(());
+        }
         match self.core.answer(n) {
             None | Some(Answer::Done(_)) => self.tell_held(n, subject, &carried, items),
             Some(Answer::RuleDone) => self.tell_changed(n, subject, items),
@@ -343,16 +333,11 @@ impl<'a> Scene<'a> {
     }
 
     /// What is told of an end.
-    fn tell_end(&self, place: u32, items: &mut Vec<ReportItem>) -> Result<(), AllocError>
-        requires { Fits self.now.core.now.setup self.now.register.now }
-    {
-        tasks_are_of_scripts();
-        let Some(subject) = self.speaker(place) else {
+    fn tell_end(&self, place: u32, items: &mut Vec<ReportItem>) -> Result<(), AllocError> {
+        let Some(subject) = self.core.subject(place) else {
             return Ok(());
         };
-        if let Some((script, index)) = self.core.behaviour(place) {
-            self.tell_altered(place, subject, script.accesses(index), items)?;
-        }
+        self.tell_altered(place, subject, declared(self.core, place), items)?;
         items.push(self.item(subject, Happening::done(place)))?;
         self.tell_entering(subject, items)
     }
@@ -368,9 +353,7 @@ impl<'a> Scene<'a> {
     }
 
     /// What is told of this event. An error comes only where a growth is refused.
-    pub(crate) fn tell(&self, event: Event, items: &mut Vec<ReportItem>) -> Result<(), AllocError>
-        requires { Fits self.now.core.now.setup self.now.register.now }
-    {
+    pub(crate) fn tell(&self, event: Event, items: &mut Vec<ReportItem>) -> Result<(), AllocError> {
         match event {
             Event::Open(subject) => {
                 let session = SessionNo::new(self.register.sessions);

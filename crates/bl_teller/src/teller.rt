@@ -1,8 +1,5 @@
 //! What notes each event of a run.
-ghost use Rattle.std.specs.Prelude.{◌≡◌, ◌<◌, ◌^◌, ℕ, IfOk, OnOk};
-ghost use Rattle.bl_order.specs.Machine.{Event as AnyEvent, Needs, start};
-ghost use Rattle.bl_hall.specs.Chronicle.{Chronicle, state_now, with_event};
-ghost use Rattle.bl_teller.specs.Keeping.{KeepsState};
+ghost use Rattle.std.specs.Prelude.{◌≡◌, ◌<◌, ◌^◌};
 
 use crate::register::Register;
 use crate::scene::Scene;
@@ -20,7 +17,7 @@ pub(crate) struct Teller {
 }
 
 /// The number of the last of so many events.
-fn number_of(events: usize) -> u32
+pub(crate) fn number_of(events: usize) -> u32
     ensures { events < 2 ^ 32 → result ≡ events }
 {
     match u32::try_from(events) {
@@ -58,9 +55,7 @@ fn close_all(items: &mut [ReportItem], tenures: &[Tenure]) {
 
 impl Teller {
     /// Nothing was told of a run over this setup, in which nothing has happened.
-    pub(crate) fn new(alloc: Global, setup: &Setup) -> Result<Teller, AllocError>
-        ensures { IfOk result (λ teller. (limit : ℕ) → KeepsState (start setup.now limit) teller.register) }
-    {
+    pub(crate) fn new(alloc: Global, setup: &Setup) -> Result<Teller, AllocError> {
         let register = Register::new(alloc, setup)?;
         Ok(Teller {
             register,
@@ -69,11 +64,7 @@ impl Teller {
     }
 
     /// Tells the last event of a hall, of which all before it was told. An error comes only where a growth is refused.
-    pub(crate) fn tell(&mut self, hall: &Hall) -> Result<(), AllocError>
-        requires { (h : Chronicle) × (e : AnyEvent) × (hall.now ≡ with_event h e) × Needs (state_now h) e
-            × KeepsState (state_now h) self.old.register }
-        ensures { OnOk result (KeepsState (state_now hall.now) self.new.register) }
-    {
+    pub(crate) fn tell(&mut self, hall: &Hall) -> Result<(), AllocError> {
         let number = number_of(hall.trail().len());
         let Some(event) = hall.trail().last() else {
             return Ok(());
