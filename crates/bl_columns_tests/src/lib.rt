@@ -1,0 +1,5 @@
+//! Tests of texts in columns.
+#![tactic(auto)]
+
+#[cfg(test)]
+mod tables;
