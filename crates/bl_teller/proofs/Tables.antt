@@ -8,6 +8,9 @@ use Rattle.bl_policy.specs.declared.access.Mode.TheVariants.{Read, Append, Write
 use Rattle.bl_policy.specs.Limits.{most_documents}
 use Rattle.bl_policy.specs.Mode.{place_of}
 use Rattle.bl_policy.specs.Policy.{SecurityPolicy, allows}
+use Rattle.bl_policy.specs.RuleEffect.{after_rule, rule_fault, rule_makes, unless_failed}
+use Rattle.bl_policy.specs.declared.denial.Denial.{Denial}
+use Rattle.bl_policy.specs.declared.rule.Rule.{Rule}
 use Rattle.bl_explain.specs.Since.{is_same_answer, unless_same}
 use Rattle.bl_teller.specs.Rights.{IsNotedFor, is_right, noted_in, place_of_right}
 
@@ -87,3 +90,9 @@ noted-right p q event events t own lo lt other s access la =
         let how : access.mode ≡ own.mode = same-mode access.mode own.mode (grind (arith, nat_tests)) in
         sym (ap (λ b. unless_same b event (get_or events (place_of_right s access) None))
         ((λ i. is_same_answer (allows p (who i) (what i) (how i)) (allows q (who i) (what i) (how i))) ∙ other))
+
+-- what a rule makes that fails nothing
+pub made-by : (p b q : SecurityPolicy) (s : ℕ) (rule : Rule) (fault : Option Denial) → b ≡ p → q ≡ after_rule p s rule → fault ≡ rule_fault p s rule → fault ≡ None
+    → (speaker : ℕ) × (q ≡ rule_makes b speaker rule)
+made-by p b q s rule fault same after is none =
+    (s, after ∙ ap (λ (f : Option Denial). unless_failed f (rule_makes p s rule) p) (sym is ∙ none) ∙ ap (λ (r : SecurityPolicy). rule_makes r s rule) (sym same))

@@ -169,8 +169,13 @@ impl Register {
             return Ok(());
         }
         let before = self.policy.copy()?;
-        if self.policy.apply(speaker, rule).is_none() && self.rights.is_for(before.subjects()) {
-            self.rights.note_rule(event, &before, &self.policy, rule);
+        match self.policy.apply(speaker, rule) {
+            None => {
+                if self.rights.is_for(before.subjects()) {
+                    self.rights.note_rule(event, &before, &self.policy, rule);
+                }
+            }
+            Some(_) => {}
         }
         if let Rule::Delete { doc } = *rule {
             set_length(&mut self.lengths, doc, 0);

@@ -1,5 +1,5 @@
 //! The report of a text.
-ghost use Rattle.std.specs.Prelude.{◌<◌, ◌^◌, IfErr, IfOk, OnOk};
+ghost use Rattle.std.specs.Prelude.{◌≡◌, ◌↔◌, IfErr, IfOk, IsTrue, OnOk, codes};
 ghost use Rattle.bl_rebuild.specs.Following.{HasFollowed};
 ghost use Rattle.bl_rebuild.specs.Rebuilds.{IsNotRebuilt};
 ghost use Rattle.bl_teller.specs.Reports.{IsEnd, IsReport, IsReportOn, IsToldOf};
@@ -13,6 +13,13 @@ use bl_setup::setup::Setup;
 use bl_trail::follow::first_line;
 use std::alloc::{AllocError, Global};
 
+/// Whether the line closes a trail.
+fn is_stop(line: &[u8]) -> bool
+    ensures { IsTrue result ↔ (line.now ≡ codes "stop") }
+{
+    line == b"stop".as_slice()
+}
+
 /// How a trail ends behind so many events that are right, by what stands there.
 fn end_of(rest: &[u8], count: u32) -> ReportEnd
     ensures { IsEnd count rest.now result }
@@ -21,7 +28,7 @@ fn end_of(rest: &[u8], count: u32) -> ReportEnd
     let Some((line, behind)) = first_line(rest) else {
         return ReportEnd::Open(rest.len());
     };
-    if line != b"stop".as_slice() {
+    if !is_stop(line) {
         return ReportEnd::Wrong(count + 3);
     }
     if behind.is_empty() {
@@ -102,9 +109,9 @@ pub fn report(alloc: Global, setup: &Setup, text: &[u8]) -> Result<Report, Rebui
             let report = report_on(follower, teller)?;
             Ok(report)
         }
-        Err(refused) => {
+        Err(_) => {
             drop(follower);
-            Err(RebuildFault::from(refused))
+            Err(RebuildFault::Memory)
         }
     }
 }

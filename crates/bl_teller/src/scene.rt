@@ -1,9 +1,8 @@
 //! What an event did: by what was kept before it, and by the hall behind it.
 ghost use Rattle.std.specs.Prelude.{◌≡◌, ◌<◌, ◌≤◌, length, slice_index_or};
 ghost use Rattle.bl_policy.specs.RuleEffect.{IsRuleOf};
-ghost use Rattle.bl_order.specs.Machine.{State, entry_weight, past_at};
+ghost use Rattle.bl_order.specs.Machine.{State, entry_weight};
 ghost use Rattle.bl_order.specs.Now.{policy_now};
-ghost use Rattle.bl_order.specs.Order.{accesses_of};
 ghost use Rattle.bl_order.specs.Past.{no_entry};
 ghost use Rattle.bl_report.specs.Items.{former_of, judged_of, modes_of, rights_below};
 ghost use Rattle.bl_teller.specs.Keeping.{AreLengths};
@@ -18,7 +17,6 @@ use bl_explain::rules::RuleGrounds;
 use bl_explain::tests::explain;
 use bl_hall::event::Event;
 use bl_level::level::Level;
-use bl_order::laws::tasks_are_of_scripts;
 use bl_policy::access::{Access, Mode};
 use bl_policy::denial::Clause;
 use bl_policy::id::{DocId, SubjectId};
@@ -38,17 +36,18 @@ pub(crate) struct Scene<'a> {
 }
 
 /// The accesses that a place declares: none where there is no such place, and none of a rule.
-pub(crate) fn declared(core: &Core, place: u32) -> &[Access]
-    ensures { place < length core.now.order → result.now ≡ accesses_of (past_at core.now place).task }
-{
-    tasks_are_of_scripts();
-    // asked for the proof alone: the core is reached
-    let _policy = core.policy();
+pub(crate) fn declared(core: &Core, place: u32) -> &[Access] {
     if place >= core.entries() {
         return &[];
     }
     match core.behaviour(place) {
-        Some((script, index)) => script.accesses(index),
+        Some((script, index)) => {
+            if index < script.weight() {
+                script.accesses(index)
+            } else {
+                &[]
+            }
+        }
         None => &[],
     }
 }
