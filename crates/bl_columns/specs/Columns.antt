@@ -1,6 +1,6 @@
 -- Texts in columns.
 use Rattle.std.specs.Prelude.{◌-◌, ℕ, Bool, List, [], ◌∷◌, ◌++◌, codes, length, map, max, replicate, not, ◌==◌, if◌then◌else◌}
-use Rattle.std.specs.List.{list_any, zip}
+use Rattle.std.specs.List.{enumerate_from, list_any, zip}
 use Rattle.bl_columns.specs.declared.column.Column.{Column}
 
 -- a text in its column: filled with blanks, in front of it where it stands at the right, else behind it
@@ -33,6 +33,13 @@ row_texts (column ∷ others) (text ∷ later) =
 -- a line of its own
 abbrev pub row_line : List Column → List (List ℕ) → List ℕ
 row_line columns cells = row_texts columns cells ++ codes "\n"
+
+-- own choice: the texts of the first column stand at the right, and those of all others at the left
+abbrev pub column_under : ℕ × List ℕ → Column
+column_under p = record { is_right = p.0 == 0; width = length p.1 }
+
+abbrev pub columns_under : List (List ℕ) → List Column
+columns_under heads = map column_under (enumerate_from 0 heads)
 
 -- a column with one text more
 abbrev pub column_with : Column × List ℕ → Column

@@ -1,6 +1,6 @@
 //! How wide a column stands, and at which side its texts.
 ghost use Rattle.std.specs.Prelude.{◌≡◌, ◌++◌, IfOk, OnOk, replicate};
-ghost use Rattle.bl_columns.specs.Columns.{aligned, column_with, columns_with, ending};
+ghost use Rattle.bl_columns.specs.Columns.{aligned, column_under, column_with, columns_under, columns_with, ending};
 
 use crate::cell::Cell;
 use std::alloc::{AllocError, Global};
@@ -14,6 +14,16 @@ pub struct Column {
     pub width: usize,
 }
 
+/// The column under a head, at this place.
+fn column_under(place: usize, head: &Cell) -> Column
+    ensures { result ≡ column_under (place, head.now) }
+{
+    Column {
+        is_right: place == 0,
+        width: head.bytes().len(),
+    }
+}
+
 /// A column with one text more.
 fn column_with(column: &Column, cell: &Cell) -> Column
     ensures { result ≡ column_with (column.now, cell.now) }
@@ -22,6 +32,18 @@ fn column_with(column: &Column, cell: &Cell) -> Column
         is_right: column.is_right,
         width: column.width.max(cell.bytes().len()),
     }
+}
+
+/// The columns under these heads: the first one's texts stand at the right, and those of all others at the left. An error
+/// comes only where a growth is refused.
+pub fn columns_under(alloc: Global, heads: &[Cell]) -> Result<Vec<Column>, AllocError>
+    ensures { IfOk result (λ columns. columns.items ≡ columns_under heads.now) }
+{
+    heads
+        .iter()
+        .enumerate()
+        .map(|(place, head)| column_under(place, head))
+        .collect(alloc)
 }
 
 /// Columns with one row more: each is as wide as before, or as the row's text, where that is wider. Where there are more

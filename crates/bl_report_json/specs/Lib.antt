@@ -1,0 +1,4 @@
+pub mod Escapes
+pub mod Fields
+pub mod Kinds
+pub mod Lines

@@ -1,0 +1,125 @@
+//! The texts of a row.
+ghost use Rattle.std.specs.Prelude.{◌≡◌, ◌<◌, ◌∷◌, [], IfOk, IfSome, OnOk, decimal, length};
+ghost use Rattle.bl_level.specs.Scheme.{HoldsLevel};
+ghost use Rattle.bl_explain_text.specs.Reasons.{behind, document_name, level_name, subject_name};
+ghost use Rattle.bl_report_rows.specs.Cells.{first_cells, line_of, line_text, object_text, shown_time, time_text, until_text};
+ghost use Rattle.bl_times.specs.Marks.{IsRising};
+
+use crate::entry::Entry;
+use crate::view::View;
+use bl_columns::cell::Cell;
+use bl_level::level::Level;
+use bl_policy::id::{DocId, SubjectId};
+use bl_times::kept::kept_by;
+use bl_times::mark::Mark;
+use itoa::Buffer;
+use std::alloc::{AllocError, Global};
+
+/// Puts a number behind a text.
+pub fn put_number(text: &mut Vec<u8>, number: u64) -> Result<(), AllocError>
+    ensures { OnOk result (text.new.items ≡ behind text.old.items (decimal number ∷ [])) }
+{
+    let mut digits = Buffer::new();
+    text.extend_from_slice(digits.format(number).as_bytes())
+}
+
+/// The name of a subject.
+pub fn subject_cell(view: &View<'_>, subject: SubjectId) -> Result<Cell, AllocError>
+    requires { subject < length view.now.names.now.subjects }
+    ensures { IfOk result (λ cell. cell ≡ subject_name view.now.names.now subject) }
+{
+    Cell::of(view.alloc, view.names.subject_name(subject).bytes())
+}
+
+/// The name of a document.
+pub fn document_cell(view: &View<'_>, doc: DocId) -> Result<Cell, AllocError>
+    requires { doc < length view.now.names.now.documents }
+    ensures { IfOk result (λ cell. cell ≡ document_name view.now.names.now doc) }
+{
+    Cell::of(view.alloc, view.names.document_name(doc).bytes())
+}
+
+/// The name of a document, or a dash where there is none.
+pub fn object_cell(view: &View<'_>, doc: Option<DocId>) -> Result<Cell, AllocError>
+    requires { IfSome doc (λ o. o < length view.now.names.now.documents) }
+    ensures { IfOk result (λ cell. cell ≡ object_text view.now.names.now doc) }
+{
+    match doc {
+        Some(doc) => document_cell(view, doc),
+        None => Cell::of(view.alloc, b"-"),
+    }
+}
+
+/// The text of a level.
+pub fn level_cell(view: &View<'_>, level: &Level) -> Result<Cell, AllocError>
+    requires { HoldsLevel view.now.names.now.scheme level.now }
+    ensures { IfOk result (λ cell. cell ≡ level_name view.now.names.now level.now) }
+{
+    let text = view.names.scheme().write_level(level)?;
+    Ok(Cell::new(text))
+}
+
+/// A time, whole or without its day.
+fn shown_time(alloc: Global, is_one_day: bool, mark: &Mark) -> Result<Cell, AllocError>
+    ensures { IfOk result (λ cell. cell ≡ shown_time is_one_day mark.now) }
+{
+    if is_one_day {
+        return Cell::of(alloc, &mark.time[11..23]);
+    }
+    Cell::of(alloc, &mark.time)
+}
+
+/// By when an event was kept, or a dash where the clock does not say.
+pub fn time_cell(view: &View<'_>, event: u32) -> Result<Cell, AllocError>
+    requires { IsRising view.now.marks.now }
+    ensures { IfOk result (λ cell. cell ≡ time_text view.now event) }
+{
+    match kept_by(view.marks, event) {
+        Some(mark) => shown_time(view.alloc, view.is_one_day, &mark),
+        None => Cell::of(view.alloc, b"-"),
+    }
+}
+
+/// The event from which on something is over, or a dash where it is not.
+pub fn until_cell(alloc: Global, until: Option<u32>) -> Result<Cell, AllocError>
+    ensures { IfOk result (λ cell. cell ≡ until_text until) }
+{
+    match until {
+        Some(event) => Cell::number(alloc, u64::from(event)),
+        None => Cell::of(alloc, b"-"),
+    }
+}
+
+/// The line of an entry: its session and its label.
+fn line_of(alloc: Global, entry: &Entry) -> Result<Cell, AllocError>
+    ensures { IfOk result (λ cell. cell ≡ line_of entry.now) }
+{
+    let mut text = Vec::new(alloc);
+    put_number(&mut text, u64::from(entry.session))?;
+    text.extend_from_slice(b":")?;
+    text.extend_from_slice(entry.label.bytes())?;
+    Ok(Cell::new(text))
+}
+
+/// The line that the entry of this place is, or descends from; nothing where there is none.
+pub fn line_cell(view: &View<'_>, place: u32) -> Result<Cell, AllocError>
+    ensures { IfOk result (λ cell. cell ≡ line_text view.now place) }
+{
+    match view.entries.get(place as usize) {
+        Some(entry) => line_of(view.alloc, entry),
+        None => Cell::of(view.alloc, b""),
+    }
+}
+
+/// How each row begins: with its event, and by when that was kept, where there is a clock.
+pub fn first_cells(view: &View<'_>, event: u32) -> Result<Vec<Cell>, AllocError>
+    requires { IsRising view.now.marks.now }
+    ensures { IfOk result (λ row. row.items ≡ first_cells view.now event) }
+{
+    let mut row = Vec::new(view.alloc);
+    row.push(Cell::number(view.alloc, u64::from(event))?)?;
+    if view.is_timed() {
+        row.push(time_cell(view, event)?)?;
+    }
+    Ok(row)
+}

@@ -1,0 +1,78 @@
+//! A line of a clock.
+ghost use Rattle.std.specs.Prelude.{◌≡◌, ◌↔◌, IsTrue, MatchOption, decimal};
+ghost use Rattle.bl_times.specs.Marks.{HasTimeForm, IsMarkLine, IsNoMarkLine, fits_form};
+
+use bl_trail::ask::{number, split_word};
+use itoa::Buffer;
+
+/// How many bytes a time has.
+pub const TIME_BYTES: usize = 24;
+
+/// How a time is spelled: in place of each `0` stands a digit.
+const FORM: &[u8] = b"0000-00-00T00:00:00.000Z";
+
+/// That so many events were kept at this time.
+#[derive(Clone, Copy, PartialEq, Eq, Debug)]
+pub struct Mark {
+    /// How many.
+    pub events: u32,
+    /// When, spelled as `2026-11-27T01:30:05.123Z`.
+    pub time: [u8; TIME_BYTES],
+}
+
+/// Whether a byte is that of the form, or a digit where the form has a `0`.
+fn fits_form(form: u8, byte: u8) -> bool
+    ensures { result ≡ fits_form form byte }
+{
+    if form == b'0' {
+        byte.is_ascii_digit()
+    } else {
+        byte == form
+    }
+}
+
+/// Whether the bytes spell a time.
+fn is_time(bytes: &[u8]) -> bool
+    ensures { IsTrue result ↔ HasTimeForm bytes.now }
+{
+    bytes.len() == TIME_BYTES
+        && FORM
+            .iter()
+            .zip(bytes)
+            .all(|(form, byte)| fits_form(*form, *byte))
+}
+
+/// Whether these are the digits of a number.
+fn is_decimal(digits: &[u8], number: u32) -> bool
+    ensures { IsTrue result ↔ (digits.now ≡ decimal number) }
+{
+    let mut buffer = Buffer::new();
+    digits == buffer.format(number).as_bytes()
+}
+
+/// The mark of a time.
+fn mark_at(events: u32, spelled: &[u8]) -> Mark
+    requires { HasTimeForm spelled.now }
+    ensures { result ≡ record { events = events; time = spelled.now } }
+{
+    let mut time = [0; TIME_BYTES];
+    time.copy_from_slice(spelled);
+    Mark { events, time }
+}
+
+/// The mark of a line, without its LF.
+pub(crate) fn mark_of(line: &[u8]) -> Option<Mark>
+    ensures { MatchOption result (IsNoMarkLine line.now) (IsMarkLine line.now) }
+{
+    let (digits, behind) = split_word(line, b' ');
+    let Some(time) = behind else {
+        return None;
+    };
+    let Some(events) = number(digits) else {
+        return None;
+    };
+    if !is_decimal(digits, events) || !is_time(time) {
+        return None;
+    }
+    Some(mark_at(events, time))
+}
