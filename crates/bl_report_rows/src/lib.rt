@@ -10,6 +10,7 @@
 //!     why      why something was denied, in words
 //!     rows     the rows of each kind of item
 //!     section  the sections, and the rows of each
+//!     tellable whether what an item names has a name
 #![tactic(auto)]
 
 pub mod cells;
@@ -18,6 +19,7 @@ pub mod filter;
 pub mod note;
 pub mod rows;
 pub mod section;
+pub mod tellable;
 pub mod view;
 pub mod what;
 pub mod why;

@@ -1,5 +1,5 @@
 -- By when the events of a trail were kept, as the lines of a clock say.
-use Rattle.std.specs.Prelude.{◌≡◌, ◌<◌, ◌^◌, ◌+◌, ◌==◌, ℕ, Bool, List, [], ◌∷◌, ◌++◌, Option, Some, IsTrue, codes, decimal, filter, find, flat_map, fold, length, nat_le, nat_lt, if◌then◌else◌}
+use Rattle.std.specs.Prelude.{◌≡◌, ◌<◌, ◌^◌, ◌+◌, ◌==◌, ℕ, Bool, List, [], ◌∷◌, ◌++◌, Option, IsTrue, All, codes, decimal, filter, find, flat_map, fold, length, nat_le, nat_lt, take, if◌then◌else◌}
 use Rattle.std.specs.List.{list_all, zip}
 use Rattle.std.specs.Char.{is_ascii_digit}
 use Rattle.bl_trail.specs.Asks.{HasNo}
@@ -7,6 +7,10 @@ use Rattle.bl_trail.specs.Follow.{IsLine}
 use Rattle.bl_times.specs.declared.mark.Mark.{Mark}
 use Rattle.bl_times.specs.declared.clock.ClockFault.{ClockFault}
 use Rattle.bl_times.specs.declared.clock.ClockFault.TheVariants.{WrongAt, Memory}
+
+-- a text is the decimal one of no number of 32 bits
+abbrev pub IsNoDecimal : List ℕ → Type 0
+IsNoDecimal text = (number : ℕ) → number < 2 ^ 32 → text ≡ decimal number → ⊥
 
 -- a byte of the form, or a digit where it has a 0
 abbrev pub fits_form : ℕ → ℕ → Bool
@@ -81,3 +85,12 @@ pub record IsWrongAt (text : List ℕ) (number : ℕ) : Type 0 where
 abbrev pub IsUnread : List ℕ → ClockFault → Type 0
 IsUnread text (WrongAt number) = IsWrongAt text number
 IsUnread text Memory = Unit {0}
+
+-- two times are of one day
+abbrev pub IsSameDay : Mark → Mark → Type 0
+IsSameDay mark other = take 10 mark.time ≡ take 10 other.time
+
+-- all are
+abbrev pub IsOneDay : List Mark → Type 0
+IsOneDay [] = Unit {0}
+IsOneDay (first ∷ marks) = All (λ mark. IsSameDay mark first) (first ∷ marks)

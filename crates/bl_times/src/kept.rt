@@ -1,6 +1,6 @@
 //! The marks that stand, and by when an event was kept.
-ghost use Rattle.std.specs.Prelude.{◌≡◌, ◌++◌, OnOk, nat_le, filter, find, option_copied};
-ghost use Rattle.bl_times.specs.Marks.{IsRising, has_fewer, kept_by, with_mark};
+ghost use Rattle.std.specs.Prelude.{◌≡◌, ◌↔◌, IsTrue, OnOk, filter};
+ghost use Rattle.bl_times.specs.Marks.{IsOneDay, IsRising, IsSameDay, has_fewer, kept_by, with_mark};
 
 use crate::mark::Mark;
 use std::alloc::AllocError;
@@ -37,4 +37,21 @@ pub fn kept_by(marks: &[Mark], event: u32) -> Option<Mark>
 {
     let at = marks.partition_point(|mark| mark.events < event);
     marks.get(at).copied()
+}
+
+/// Whether two times are of one day.
+fn is_same_day(mark: &Mark, other: &Mark) -> bool
+    ensures { IsTrue result ↔ IsSameDay mark.now other.now }
+{
+    mark.time[..10] == other.time[..10]
+}
+
+/// Whether all marks are of one day.
+pub fn is_one_day(marks: &[Mark]) -> bool
+    ensures { IsTrue result ↔ IsOneDay marks.now }
+{
+    match marks.first() {
+        Some(first) => marks.iter().all(|mark| is_same_day(mark, first)),
+        None => true,
+    }
 }

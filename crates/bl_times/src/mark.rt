@@ -1,6 +1,6 @@
 //! A line of a clock.
 ghost use Rattle.std.specs.Prelude.{◌≡◌, ◌↔◌, IsTrue, MatchOption, decimal};
-ghost use Rattle.bl_times.specs.Marks.{HasTimeForm, IsMarkLine, IsNoMarkLine, fits_form};
+ghost use Rattle.bl_times.specs.Marks.{HasTimeForm, IsMarkLine, IsNoDecimal, IsNoMarkLine, fits_form};
 
 use bl_trail::ask::{number, split_word};
 use itoa::Buffer;
@@ -42,12 +42,19 @@ fn is_time(bytes: &[u8]) -> bool
             .all(|(form, byte)| fits_form(*form, *byte))
 }
 
-/// Whether these are the digits of a number.
-fn is_decimal(digits: &[u8], number: u32) -> bool
-    ensures { IsTrue result ↔ (digits.now ≡ decimal number) }
+/// The number whose decimal text this is.
+pub fn decimal_of(text: &[u8]) -> Option<u32>
+    ensures { MatchOption result (IsNoDecimal text.now) (λ number. text.now ≡ decimal number) }
 {
+    let Some(number) = number(text) else {
+        return None;
+    };
     let mut buffer = Buffer::new();
-    digits == buffer.format(number).as_bytes()
+    if buffer.format(number).as_bytes() == text {
+        Some(number)
+    } else {
+        None
+    }
 }
 
 /// The mark of a time.
@@ -68,10 +75,10 @@ pub(crate) fn mark_of(line: &[u8]) -> Option<Mark>
     let Some(time) = behind else {
         return None;
     };
-    let Some(events) = number(digits) else {
+    let Some(events) = decimal_of(digits) else {
         return None;
     };
-    if !is_decimal(digits, events) || !is_time(time) {
+    if !is_time(time) {
         return None;
     }
     Some(mark_at(events, time))
