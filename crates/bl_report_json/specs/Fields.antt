@@ -1,12 +1,9 @@
 -- The fields that several kinds of lines share. Their names and order are own choices.
-use Rattle.std.specs.Prelude.{ℕ, Bool, true, false, List, [], ◌∷◌, Option, Some, None, codes, decimal, slice_get, if◌then◌else◌}
+use Rattle.std.specs.Prelude.{◌==◌, ℕ, Bool, true, false, List, [], ◌∷◌, Option, Some, None, codes, decimal, length, slice_get, if◌then◌else◌}
 use Rattle.bl_explain_text.specs.Reasons.{behind}
 use Rattle.bl_report_json.specs.Escapes.{quoted}
-use Rattle.bl_report_rows.specs.Cells.{is_timed}
 use Rattle.bl_report_rows.specs.declared.entry.Entry.{Entry}
 use Rattle.bl_report_rows.specs.declared.view.View.{View}
-use Rattle.bl_times.specs.Marks.{kept_by}
-use Rattle.bl_times.specs.declared.mark.Mark.{Mark}
 
 abbrev pub truth : Bool → List ℕ
 truth true = codes "true"
@@ -16,13 +13,20 @@ abbrev pub count_or_null : Option ℕ → List ℕ
 count_or_null (Some number) = decimal number
 count_or_null None = codes "null"
 
-abbrev pub time_by : Option Mark → List (List ℕ)
-time_by (Some mark) = codes ",\"time\":" ∷ quoted mark.time ∷ []
-time_by None = codes ",\"time\":" ∷ codes "null" ∷ []
+-- a time, if the clock says it
+abbrev pub known_pieces : List ℕ → List (List ℕ)
+known_pieces time =
+    if length time == 0
+    then codes ",\"time\":" ∷ codes "null" ∷ []
+    else codes ",\"time\":" ∷ quoted time ∷ []
+
+abbrev pub time_by : Option (List ℕ) → List (List ℕ)
+time_by (Some time) = known_pieces time
+time_by None = []
 
 -- by when an event was kept, where there is a clock
 abbrev pub time_pieces : View → ℕ → List (List ℕ)
-time_pieces view event = if is_timed view then time_by (kept_by view.marks.now event) else []
+time_pieces view event = time_by (slice_get view.times.now event)
 
 -- the session and the label of an entry
 abbrev pub line_pieces : Entry → List (List ℕ)

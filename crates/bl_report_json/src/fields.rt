@@ -3,8 +3,7 @@ ghost use Rattle.std.specs.Prelude.{◌≡◌, ◌∷◌, [], ◌<◌, OnOk, dec
 ghost use Rattle.bl_level.specs.Scheme.{HoldsLevel};
 ghost use Rattle.bl_explain_text.specs.Reasons.{behind, document_name, level_name, subject_name};
 ghost use Rattle.bl_report_json.specs.Escapes.{quoted};
-ghost use Rattle.bl_report_json.specs.Fields.{count_or_null, line_pieces, time_pieces, truth, with_entry, with_head};
-ghost use Rattle.bl_times.specs.Marks.{IsRising};
+ghost use Rattle.bl_report_json.specs.Fields.{count_or_null, known_pieces, line_pieces, time_pieces, truth, with_entry, with_head};
 
 use crate::escape::put_quoted;
 use bl_level::level::Level;
@@ -12,7 +11,6 @@ use bl_policy::id::{DocId, SubjectId};
 use bl_report_rows::cells::put_number;
 use bl_report_rows::entry::Entry;
 use bl_report_rows::view::View;
-use bl_times::kept::kept_by;
 use std::alloc::AllocError;
 
 /// Puts a field that is a number, with its key.
@@ -103,17 +101,23 @@ pub(crate) fn put_level(
     put_text(text, key, &name)
 }
 
+/// Puts a time, or nothing where the clock does not say it.
+fn put_known(text: &mut Vec<u8>, time: &[u8]) -> Result<(), AllocError>
+    ensures { OnOk result (text.new.items ≡ behind text.old.items (known_pieces time.now)) }
+{
+    if time.is_empty() {
+        return put_word(text, b",\"time\":", b"null");
+    }
+    put_text(text, b",\"time\":", time)
+}
+
 /// Puts by when an event was kept; nothing where there is no clock.
 fn put_time(view: &View<'_>, text: &mut Vec<u8>, event: u32) -> Result<(), AllocError>
-    requires { IsRising view.now.marks.now }
     ensures { OnOk result (text.new.items ≡ behind text.old.items (time_pieces view.now event)) }
 {
-    if !view.is_timed() {
-        return Ok(());
-    }
-    match kept_by(view.marks, event) {
-        Some(mark) => put_text(text, b",\"time\":", &mark.time),
-        None => put_word(text, b",\"time\":", b"null"),
+    match view.times.get(event as usize) {
+        Some(time) => put_known(text, time.bytes()),
+        None => Ok(()),
     }
 }
 
@@ -124,7 +128,6 @@ pub(crate) fn put_head(
     event: u32,
     kind: &[u8],
 ) -> Result<(), AllocError>
-    requires { IsRising view.now.marks.now }
     ensures { OnOk result (text.new.items ≡ with_head view.now event kind.now text.old.items) }
 {
     put_count(text, b"{\"event\":", u64::from(event))?;

@@ -2,7 +2,6 @@
 ghost use Rattle.std.specs.Prelude.{◌≡◌, ◌<◌, IfOk, length};
 ghost use Rattle.bl_report_json.specs.Lines.{begun, json_line, opened, told};
 ghost use Rattle.bl_report_rows.specs.Tellable.{IsTellable};
-ghost use Rattle.bl_times.specs.Marks.{IsRising};
 
 use crate::fields::{put_count, put_entry, put_head, put_subject, put_word, truth};
 use crate::kinds::{put_altered, put_changed, put_denied, put_held};
@@ -19,7 +18,6 @@ fn begun(
     place: u32,
     kind: &[u8],
 ) -> Result<Vec<u8>, AllocError>
-    requires timed { IsRising view.now.marks.now }
     requires known { item.now.subject < length view.now.names.now.subjects }
     ensures { IfOk result (λ text. text.items ≡ begun view.now item.now place kind.now) }
 {
@@ -32,7 +30,6 @@ fn begun(
 
 /// The line of a session that was opened, without its end.
 fn opened(view: &View<'_>, item: &ReportItem, session: SessionNo) -> Result<Vec<u8>, AllocError>
-    requires timed { IsRising view.now.marks.now }
     requires known { item.now.subject < length view.now.names.now.subjects }
     ensures { IfOk result (λ text. text.items ≡ opened view.now item.now session) }
 {
@@ -45,7 +42,6 @@ fn opened(view: &View<'_>, item: &ReportItem, session: SessionNo) -> Result<Vec<
 
 /// The line of an item, without its end.
 fn told(view: &View<'_>, item: &ReportItem) -> Result<Vec<u8>, AllocError>
-    requires timed { IsRising view.now.marks.now }
     requires tellable { IsTellable view.now.names.now item.now }
     ensures { IfOk result (λ text. text.items ≡ told view.now item.now item.now.happening) }
 {
@@ -105,7 +101,6 @@ fn told(view: &View<'_>, item: &ReportItem) -> Result<Vec<u8>, AllocError>
 /// The line of an item, with its end; nothing where the filter leaves it out. An error comes only where a growth is
 /// refused.
 pub fn json_line(view: &View<'_>, item: &ReportItem) -> Result<Vec<u8>, AllocError>
-    requires timed { IsRising view.now.marks.now }
     requires tellable { IsTellable view.now.names.now item.now }
     ensures { IfOk result (λ text. text.items ≡ json_line view.now item.now) }
 {

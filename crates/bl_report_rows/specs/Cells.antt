@@ -1,43 +1,35 @@
 -- The texts of a report's rows.
-use Rattle.std.specs.Prelude.{◌==◌, ℕ, Bool, true, false, List, [], ◌∷◌, ◌++◌, Option, Some, None, codes, decimal, drop, fold, length, not, slice_get, take, if◌then◌else◌}
-use Rattle.bl_explain.specs.Since.{is_same_level}
-use Rattle.bl_explain.specs.Tests.{is_exempt}
-use Rattle.bl_explain_text.specs.Reasons.{document_name, joined, level_name, subject_name}
-use Rattle.bl_policy.specs.Denial.{word_of}
-use Rattle.bl_policy.specs.Policy.{lowest}
-use Rattle.bl_policy.specs.declared.access.Access.{Access}
-use Rattle.bl_policy.specs.declared.denial.Clause.{Clause}
-use Rattle.bl_policy.specs.declared.rule.Rule.{Rule}
-use Rattle.bl_report.specs.declared.item.Blame.{Blame}
-use Rattle.bl_report.specs.declared.item.Former.{Former}
-use Rattle.bl_report.specs.declared.item.JudgedAccess.{JudgedAccess}
-use Rattle.bl_report.specs.declared.item.ReportItem.{ReportItem}
-use Rattle.bl_report_rows.specs.Filters.{blamed_document}
-use Rattle.bl_report_rows.specs.Words.{asked_word, changed_words, mode_word, rule_word, why_words}
+use Rattle.std.specs.Prelude.{◌==◌, ◌&&◌, ℕ, Bool, true, false, List, [], ◌∷◌, ◌++◌, Option, Some, None, codes, decimal, drop, fold, length, not, slice_get, take, if◌then◌else◌}
+use Rattle.bl_explain_text.specs.Reasons.{document_name, joined}
 use Rattle.bl_report_rows.specs.declared.entry.Entry.{Entry}
 use Rattle.bl_report_rows.specs.declared.view.View.{View}
-use Rattle.bl_times.specs.Marks.{kept_by}
-use Rattle.bl_times.specs.declared.mark.Mark.{Mark}
 
 -- a row, and these cells behind it, one after the other
 abbrev pub row_behind : List (List ℕ) → List (List ℕ) → List (List ℕ)
 row_behind row cells = fold (λ before cell. before ++ cell ∷ []) row cells
 
--- own choice: a time stands whole, or without its day and the letters round it
-abbrev pub shown_time : Bool → Mark → List ℕ
-shown_time is_one_day mark = if is_one_day then take 12 (drop 11 mark.time) else mark.time
+-- a time is shown without its day, where all are of one
+abbrev pub lacks_day : Bool → List ℕ → Bool
+lacks_day is_one_day time = is_one_day && (length time == 24)
 
-abbrev pub time_by : Bool → Option Mark → List ℕ
-time_by is_one_day (Some mark) = shown_time is_one_day mark
+-- own choice: a time stands whole, or without its day and the letters round it; a dash where there is none
+abbrev pub shown_time : Bool → List ℕ → List ℕ
+shown_time is_one_day time =
+    if lacks_day is_one_day time
+    then take 12 (drop 11 time)
+    else (if length time == 0 then codes "-" else time)
+
+abbrev pub time_by : Bool → Option (List ℕ) → List ℕ
+time_by is_one_day (Some time) = shown_time is_one_day time
 time_by is_one_day None = codes "-"
 
 -- by when an event was kept
 abbrev pub time_text : View → ℕ → List ℕ
-time_text view event = time_by view.is_one_day (kept_by view.marks.now event)
+time_text view event = time_by view.is_one_day (slice_get view.times.now event)
 
 -- there is a clock
 abbrev pub is_timed : View → Bool
-is_timed view = not (length view.marks.now == 0)
+is_timed view = not (length view.times.now == 0)
 
 -- each row begins with its event, and by when that was kept, where there is a clock
 abbrev pub first_cells : View → ℕ → List (List ℕ)

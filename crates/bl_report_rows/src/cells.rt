@@ -2,16 +2,13 @@
 ghost use Rattle.std.specs.Prelude.{◌≡◌, ◌<◌, ◌∷◌, [], IfOk, IfSome, OnOk, decimal, length};
 ghost use Rattle.bl_level.specs.Scheme.{HoldsLevel};
 ghost use Rattle.bl_explain_text.specs.Reasons.{behind, document_name, level_name, subject_name};
-ghost use Rattle.bl_report_rows.specs.Cells.{first_cells, line_of, line_text, object_text, shown_time, time_text, until_text};
-ghost use Rattle.bl_times.specs.Marks.{IsRising};
+ghost use Rattle.bl_report_rows.specs.Cells.{first_cells, lacks_day, line_of, line_text, object_text, shown_time, time_text, until_text};
 
 use crate::entry::Entry;
 use crate::view::View;
 use bl_columns::cell::Cell;
 use bl_level::level::Level;
 use bl_policy::id::{DocId, SubjectId};
-use bl_times::kept::kept_by;
-use bl_times::mark::Mark;
 use itoa::Buffer;
 use std::alloc::{AllocError, Global};
 
@@ -59,23 +56,32 @@ pub fn level_cell(view: &View<'_>, level: &Level) -> Result<Cell, AllocError>
     Ok(Cell::new(text))
 }
 
-/// A time, whole or without its day.
-fn shown_time(alloc: Global, is_one_day: bool, mark: &Mark) -> Result<Cell, AllocError>
-    ensures { IfOk result (λ cell. cell ≡ shown_time is_one_day mark.now) }
+/// Whether a time is shown without its day.
+fn lacks_day(is_one_day: bool, time: &[u8]) -> bool
+    ensures { result ≡ lacks_day is_one_day time.now }
 {
-    if is_one_day {
-        return Cell::of(alloc, &mark.time[11..23]);
+    is_one_day && time.len() == 24
+}
+
+/// A time, whole or without its day; a dash where there is none.
+fn shown_time(alloc: Global, is_one_day: bool, time: &[u8]) -> Result<Cell, AllocError>
+    ensures { IfOk result (λ cell. cell ≡ shown_time is_one_day time.now) }
+{
+    if lacks_day(is_one_day, time) {
+        return Cell::of(alloc, &time[11..23]);
     }
-    Cell::of(alloc, &mark.time)
+    if time.is_empty() {
+        return Cell::of(alloc, b"-");
+    }
+    Cell::of(alloc, time)
 }
 
 /// By when an event was kept, or a dash where the clock does not say.
 pub fn time_cell(view: &View<'_>, event: u32) -> Result<Cell, AllocError>
-    requires { IsRising view.now.marks.now }
     ensures { IfOk result (λ cell. cell ≡ time_text view.now event) }
 {
-    match kept_by(view.marks, event) {
-        Some(mark) => shown_time(view.alloc, view.is_one_day, &mark),
+    match view.times.get(event as usize) {
+        Some(time) => shown_time(view.alloc, view.is_one_day, time.bytes()),
         None => Cell::of(view.alloc, b"-"),
     }
 }
@@ -113,7 +119,6 @@ pub fn line_cell(view: &View<'_>, place: u32) -> Result<Cell, AllocError>
 
 /// How each row begins: with its event, and by when that was kept, where there is a clock.
 pub fn first_cells(view: &View<'_>, event: u32) -> Result<Vec<Cell>, AllocError>
-    requires { IsRising view.now.marks.now }
     ensures { IfOk result (λ row. row.items ≡ first_cells view.now event) }
 {
     let mut row = Vec::new(view.alloc);

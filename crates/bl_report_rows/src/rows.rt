@@ -5,7 +5,6 @@ ghost use Rattle.bl_report_rows.specs.Cells.{object_text};
 ghost use Rattle.bl_report_rows.specs.Filters.{blamed_document};
 ghost use Rattle.bl_report_rows.specs.Rows.{altered_cells, changed_cells, denied_cells, entry_cells, held_cells, lengths_text, lost_cells, lost_words};
 ghost use Rattle.bl_report_rows.specs.Tellable.{HoldsBlame, HoldsChange, HoldsJudged};
-ghost use Rattle.bl_times.specs.Marks.{IsRising};
 
 use crate::cells::{document_cell, first_cells, level_cell, line_cell, object_cell, put_number, subject_cell, until_cell};
 use crate::note::note_text;
@@ -28,7 +27,6 @@ pub(crate) fn held_row(
     judged: &JudgedAccess,
     until: Option<u32>,
 ) -> Result<Vec<Cell>, AllocError>
-    requires timed { IsRising view.now.marks.now }
     requires known { item.now.subject < length view.now.names.now.subjects }
     requires judged { HoldsJudged view.now.names.now judged.now }
     ensures { IfOk result (λ row. row.items ≡ held_cells view.now item.now place judged.now until) }
@@ -59,7 +57,6 @@ pub(crate) fn denied_row(
     clause: Clause,
     blame: &Blame,
 ) -> Result<Vec<Cell>, AllocError>
-    requires timed { IsRising view.now.marks.now }
     requires known { item.now.subject < length view.now.names.now.subjects }
     requires blame { HoldsBlame view.now.names.now blame.now }
     ensures { IfOk result (λ row. row.items ≡ denied_cells view.now item.now place clause blame.now) }
@@ -113,7 +110,6 @@ pub(crate) fn changed_row(
     rule: &Rule,
     before: &Former,
 ) -> Result<Vec<Cell>, AllocError>
-    requires timed { IsRising view.now.marks.now }
     requires known { item.now.subject < length view.now.names.now.subjects }
     requires change { HoldsChange view.now.names.now rule.now before.now }
     ensures { IfOk result (λ row. row.items ≡ changed_cells view.now item.now place rule.now before.now) }
@@ -148,7 +144,6 @@ pub(crate) fn altered_row(
     access: &Access,
     lengths: (usize, usize),
 ) -> Result<Vec<Cell>, AllocError>
-    requires timed { IsRising view.now.marks.now }
     requires known { item.now.subject < length view.now.names.now.subjects }
     requires there { access.now.doc < length view.now.names.now.documents }
     ensures { IfOk result (λ row. row.items ≡ altered_cells view.now item.now place access.now lengths.0 lengths.1) }
@@ -180,7 +175,6 @@ pub(crate) fn lost_row(
     place: u32,
     ran: bool,
 ) -> Result<Vec<Cell>, AllocError>
-    requires timed { IsRising view.now.marks.now }
     requires known { item.now.subject < length view.now.names.now.subjects }
     ensures { IfOk result (λ row. row.items ≡ lost_cells view.now item.now place ran) }
 {
@@ -199,7 +193,6 @@ pub(crate) fn entry_row(
     item: &ReportItem,
     place: u32,
 ) -> Result<Vec<Cell>, AllocError>
-    requires timed { IsRising view.now.marks.now }
     requires known { item.now.subject < length view.now.names.now.subjects }
     ensures { IfOk result (λ row. row.items ≡ entry_cells view.now item.now place) }
 {

@@ -3,7 +3,6 @@ ghost use Rattle.std.specs.Prelude.{◌≡◌, ◌∷◌, ◌++◌, [], IfOk, On
 ghost use Rattle.bl_report_rows.specs.Cells.{first_heads};
 ghost use Rattle.bl_report_rows.specs.Sections.{altered_heads, cells_of, changed_heads, denied_heads, entry_heads, event_head, held_heads, heads_of, is_held, lost_heads, row_of, stands_open, title_of};
 ghost use Rattle.bl_report_rows.specs.Tellable.{IsTellable};
-ghost use Rattle.bl_times.specs.Marks.{IsRising};
 
 use crate::filter::is_wanted;
 use crate::note::is_carried;
@@ -190,7 +189,6 @@ fn cells_of(
     section: Section,
     item: &ReportItem,
 ) -> Result<Vec<Cell>, AllocError>
-    requires timed { IsRising view.now.marks.now }
     requires tellable { IsTellable view.now.names.now item.now }
     ensures { IfOk result (λ row. row.items ≡ cells_of view.now section item.now) }
 {
@@ -237,7 +235,6 @@ pub fn row_of(
     section: Section,
     item: &ReportItem,
 ) -> Result<Vec<Cell>, AllocError>
-    requires timed { IsRising view.now.marks.now }
     requires tellable { IsTellable view.now.names.now item.now }
     ensures { IfOk result (λ row. row.items ≡ row_of view.now section item.now) }
 {

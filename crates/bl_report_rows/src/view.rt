@@ -4,7 +4,7 @@ ghost use Rattle.bl_report_rows.specs.Cells.{is_timed};
 
 use crate::entry::Entry;
 use crate::filter::Filter;
-use bl_times::mark::Mark;
+use bl_columns::cell::Cell;
 use bl_work::names::Names;
 use std::alloc::Global;
 
@@ -17,8 +17,8 @@ pub struct View<'a> {
     pub names: &'a Names,
     /// What is said of each entry, by its place.
     pub entries: &'a [Entry],
-    /// The marks of the clock; none where there is no clock.
-    pub marks: &'a [Mark],
+    /// By when each event was kept, by its number, where the clock says it; none where there is no clock.
+    pub times: &'a [Cell],
     /// Whether times lack the day, as all are of one.
     pub is_one_day: bool,
     /// Which items are wanted.
@@ -30,6 +30,6 @@ impl View<'_> {
     pub fn is_timed(&self) -> bool
         ensures { result ≡ is_timed self.now }
     {
-        !self.marks.is_empty()
+        !self.times.is_empty()
     }
 }

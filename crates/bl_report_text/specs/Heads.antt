@@ -6,7 +6,6 @@ use Rattle.bl_report.specs.declared.report.ReportEnd.TheVariants.{Closed, Open, 
 use Rattle.bl_report_json.specs.Escapes.{quoted}
 use Rattle.bl_report_text.specs.Counting.{wanted_count}
 use Rattle.bl_report_text.specs.declared.told.Told.{Told}
-use Rattle.bl_times.specs.declared.mark.Mark.{Mark}
 
 -- how many bytes stand behind the last line, where some do
 abbrev pub torn_pieces : ℕ → List (List ℕ)
@@ -39,15 +38,15 @@ file_pieces told verdict =
     ∷ codes "\n"
     ∷ []
 
-abbrev pub kept_between : Option Mark → Option Mark → List (List ℕ)
+abbrev pub kept_between : Option (List ℕ) → Option (List ℕ) → List (List ℕ)
 kept_between (Some first) (Some last) =
-    codes "  kept     " ∷ first.time ∷ codes " to " ∷ last.time ∷ codes ", as the clock says\n" ∷ []
+    codes "  kept     " ∷ first ∷ codes " to " ∷ last ∷ codes ", as the clock says\n" ∷ []
 kept_between (Some first) None = []
 kept_between None last = []
 
 -- from when to when the events were kept, where there is a clock
-abbrev pub kept_pieces : List Mark → List (List ℕ)
-kept_pieces marks = kept_between (slice_get marks 0) (slice_get marks (length marks - 1))
+abbrev pub kept_pieces : List (List ℕ) → List (List ℕ)
+kept_pieces times = kept_between (slice_get times 0) (slice_get times (length times - 1))
 
 -- the head of the text
 abbrev pub head_text : Told → List ℕ
@@ -57,7 +56,7 @@ head_text told =
     (behind
     (behind [] (file_pieces told (verdict_text told.events told.end)))
     (codes "  label    " ∷ level_name told.view.names.now told.label ∷ codes "\n" ∷ []))
-    (kept_pieces told.view.marks.now))
+    (kept_pieces told.view.times.now))
     (codes "  items    "
     ∷ decimal (wanted_count told.view.filter told.items.now)
     ∷ codes " of "
@@ -81,14 +80,14 @@ json_file_pieces told verdict =
     ∷ quoted told.setup_name.now
     ∷ []
 
-abbrev pub json_kept_between : Option Mark → Option Mark → List (List ℕ)
+abbrev pub json_kept_between : Option (List ℕ) → Option (List ℕ) → List (List ℕ)
 json_kept_between (Some first) (Some last) =
-    codes ",\"first\":" ∷ quoted first.time ∷ codes ",\"last\":" ∷ quoted last.time ∷ []
+    codes ",\"first\":" ∷ quoted first ∷ codes ",\"last\":" ∷ quoted last ∷ []
 json_kept_between (Some first) None = []
 json_kept_between None last = []
 
-abbrev pub json_kept_pieces : List Mark → List (List ℕ)
-json_kept_pieces marks = json_kept_between (slice_get marks 0) (slice_get marks (length marks - 1))
+abbrev pub json_kept_pieces : List (List ℕ) → List (List ℕ)
+json_kept_pieces times = json_kept_between (slice_get times 0) (slice_get times (length times - 1))
 
 -- the head line of JSON
 abbrev pub json_head : Told → List ℕ
@@ -106,7 +105,7 @@ json_head told =
     ∷ codes ",\"label\":"
     ∷ quoted (level_name told.view.names.now told.label)
     ∷ []))
-    (json_kept_pieces told.view.marks.now))
+    (json_kept_pieces told.view.times.now))
     (codes "}\n" ∷ [])
 
 -- the last line of JSON: how many items were told, so that a cut is seen

@@ -20,11 +20,9 @@ use Rattle.bl_report_text.specs.declared.form.Form.TheVariants as form
 use Rattle.bl_report_text.specs.declared.part.Part.{Part}
 use Rattle.bl_report_text.specs.declared.part.Part.TheVariants.{Head, Short, Count, Rows, Foot, JsonHead, JsonLines, JsonEnd}
 use Rattle.bl_report_text.specs.declared.told.Told.{Told}
-use Rattle.bl_times.specs.Marks.{IsRising}
 
--- what a report is told from: all of it has names, and the marks of its clock stand
+-- what a report is told from: all of it has names
 pub record IsTold (told : Told) : Type 0 where
-  pub timed : IsRising told.view.marks.now
   pub tellable : All (IsTellable told.view.names.now) told.items.now
   pub label : HoldsLevel told.view.names.now.scheme told.label
 

@@ -2,7 +2,6 @@
 ghost use Rattle.std.specs.Prelude.{◌≡◌, All, IfOk};
 ghost use Rattle.bl_report_text.specs.Forms.{columns_of, line_of, put_row, widened};
 ghost use Rattle.bl_report_rows.specs.Tellable.{IsTellable};
-ghost use Rattle.bl_times.specs.Marks.{IsRising};
 
 use bl_columns::column::{Column, columns_under, columns_with};
 use bl_columns::row::row_line;
@@ -28,7 +27,6 @@ fn put_row(
     columns: &[Column],
     item: &ReportItem,
 ) -> Result<Vec<u8>, AllocError>
-    requires timed { IsRising view.now.marks.now }
     requires tellable { IsTellable view.now.names.now item.now }
     ensures { IfOk result (λ line. line.items ≡ put_row view.now section columns.now item.now) }
 {
@@ -45,7 +43,6 @@ pub(crate) fn line_of(
     form: &Form<'_>,
     item: &ReportItem,
 ) -> Result<Vec<u8>, AllocError>
-    requires timed { IsRising view.now.marks.now }
     requires tellable { IsTellable view.now.names.now item.now }
     ensures { IfOk result (λ line. line.items ≡ line_of view.now form.now item.now) }
 {
@@ -62,7 +59,6 @@ fn widened(
     columns: Vec<Column>,
     item: &ReportItem,
 ) -> Result<Vec<Column>, AllocError>
-    requires timed { IsRising view.now.marks.now }
     requires tellable { IsTellable view.now.names.now item.now }
     ensures { IfOk result (λ wider. wider.items ≡ widened view.now section columns.items item.now) }
 {
@@ -79,7 +75,6 @@ pub(crate) fn columns_of(
     section: Section,
     items: &[ReportItem],
 ) -> Result<Vec<Column>, AllocError>
-    requires timed { IsRising view.now.marks.now }
     requires tellable { All (IsTellable view.now.names.now) items.now }
     ensures { IfOk result (λ columns. columns.items ≡ columns_of view.now section items.now) }
 {

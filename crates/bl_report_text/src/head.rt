@@ -9,7 +9,7 @@ use crate::told::Told;
 use bl_report::report::ReportEnd;
 use bl_report_json::escape::put_quoted;
 use bl_report_rows::cells::put_number;
-use bl_times::mark::Mark;
+use bl_columns::cell::Cell;
 use std::alloc::{AllocError, Global};
 
 /// Puts a number between two texts.
@@ -51,16 +51,16 @@ pub(crate) fn verdict_text(alloc: Global, events: u64, end: ReportEnd) -> Result
 }
 
 /// Puts from when to when the events were kept, where there is a clock.
-fn put_kept(text: &mut Vec<u8>, marks: &[Mark]) -> Result<(), AllocError>
-    ensures { OnOk result (text.new.items ≡ behind text.old.items (kept_pieces marks.now)) }
+fn put_kept(text: &mut Vec<u8>, times: &[Cell]) -> Result<(), AllocError>
+    ensures { OnOk result (text.new.items ≡ behind text.old.items (kept_pieces times.now)) }
 {
-    let (Some(first), Some(last)) = (marks.first(), marks.last()) else {
+    let (Some(first), Some(last)) = (times.first(), times.last()) else {
         return Ok(());
     };
     text.extend_from_slice(b"  kept     ")?;
-    text.extend_from_slice(&first.time)?;
+    text.extend_from_slice(first.bytes())?;
     text.extend_from_slice(b" to ")?;
-    text.extend_from_slice(&last.time)?;
+    text.extend_from_slice(last.bytes())?;
     text.extend_from_slice(b", as the clock says\n")
 }
 
@@ -99,7 +99,7 @@ pub(crate) fn head_text(told: &Told<'_>) -> Result<Vec<u8>, AllocError>
     text.extend_from_slice(b"  label    ")?;
     text.extend_from_slice(&label)?;
     text.extend_from_slice(b"\n")?;
-    put_kept(&mut text, told.view.marks)?;
+    put_kept(&mut text, told.view.times)?;
     put_counted(&mut text, b"  items    ", wanted as u64, b" of ")?;
     put_counted(&mut text, b"", told.items.len() as u64, b"\n")?;
     Ok(text)
@@ -122,16 +122,16 @@ fn put_json_files(text: &mut Vec<u8>, told: &Told<'_>, verdict: &[u8]) -> Result
 }
 
 /// Puts from when to when the events were kept, as JSON, where there is a clock.
-fn put_json_kept(text: &mut Vec<u8>, marks: &[Mark]) -> Result<(), AllocError>
-    ensures { OnOk result (text.new.items ≡ behind text.old.items (json_kept_pieces marks.now)) }
+fn put_json_kept(text: &mut Vec<u8>, times: &[Cell]) -> Result<(), AllocError>
+    ensures { OnOk result (text.new.items ≡ behind text.old.items (json_kept_pieces times.now)) }
 {
-    let (Some(first), Some(last)) = (marks.first(), marks.last()) else {
+    let (Some(first), Some(last)) = (times.first(), times.last()) else {
         return Ok(());
     };
     text.extend_from_slice(b",\"first\":")?;
-    put_quoted(text, &first.time)?;
+    put_quoted(text, first.bytes())?;
     text.extend_from_slice(b",\"last\":")?;
-    put_quoted(text, &last.time)
+    put_quoted(text, last.bytes())
 }
 
 /// The head line of JSON.
@@ -148,7 +148,7 @@ pub(crate) fn json_head(told: &Told<'_>) -> Result<Vec<u8>, AllocError>
     put_counted(&mut text, b",\"version\":2,\"limit\":", u64::from(told.limit), b"")?;
     text.extend_from_slice(b",\"label\":")?;
     put_quoted(&mut text, &label)?;
-    put_json_kept(&mut text, told.view.marks)?;
+    put_json_kept(&mut text, told.view.times)?;
     text.extend_from_slice(b"}\n")?;
     Ok(text)
 }

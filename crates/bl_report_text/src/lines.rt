@@ -3,7 +3,6 @@ ghost use Rattle.std.specs.Prelude.{◌≡◌, All, IfOk, OnErr};
 ghost use Rattle.bl_report_text.specs.Forms.{lines_of};
 ghost use Rattle.bl_report_text.specs.Fronts.{IsFrontPut};
 ghost use Rattle.bl_report_rows.specs.Tellable.{IsTellable};
-ghost use Rattle.bl_times.specs.Marks.{IsRising};
 ghost use Rattle.bl_wire.specs.Watch.{Puts, end_state};
 
 use crate::form::{Form, line_of};
@@ -22,7 +21,6 @@ pub(crate) fn put_lines<W: Write>(
     items: &[ReportItem],
     writer: &mut Watched<W>,
 ) -> Result<(), AllocError>
-    requires timed { IsRising view.now.marks.now }
     requires tellable { All (IsTellable view.now.names.now) items.now }
     ensures puts { IfOk result (λ _. Puts (lines_of view.now form.now items.now)
         (end_state W.contents writer.old) (end_state W.contents writer.new)) }

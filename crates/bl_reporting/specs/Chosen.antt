@@ -12,7 +12,7 @@ use Rattle.bl_report_rows.specs.declared.filter.Outcome.{Outcome}
 use Rattle.bl_reporting.specs.declared.asked.ReportAsked.{ReportAsked}
 use Rattle.bl_reporting.specs.declared.fault.ReportFault.{ReportFault}
 use Rattle.bl_reporting.specs.declared.fault.ReportFault.TheVariants as failing
-use Rattle.bl_times.specs.Marks.{IsNoDecimal}
+use Rattle.bl_times.specs.Clocks.{IsNoDecimal}
 use Rattle.bl_work.specs.Names.{KnownNames}
 
 -- the subject of this name, where one is asked for

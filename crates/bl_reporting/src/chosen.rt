@@ -8,7 +8,7 @@ use bl_level::level::Level;
 use bl_level::scheme::Scheme;
 use bl_policy::id::{DocId, SubjectId};
 use bl_report_rows::filter::Filter;
-use bl_times::mark::decimal_of;
+use bl_times::line::decimal_of;
 use bl_work::names::Names;
 
 /// The subject that is asked for.

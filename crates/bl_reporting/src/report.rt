@@ -2,7 +2,7 @@
 ghost use Rattle.std.specs.Prelude.{◌≡◌, ◌≤◌, [], false, IfErr, IfOk, OnOk};
 ghost use Rattle.bl_reporting.specs.Runs.{HasReported, HasReadClock, IsBeside, IsReportRun, IsUnreported, of_rebuild, status_for};
 ghost use Rattle.bl_status.specs.Status.{IsStatus};
-ghost use Rattle.bl_times.specs.Marks.{IsRising};
+ghost use Rattle.bl_marks.specs.Marks.{IsRising};
 ghost use Rattle.bl_wire.specs.Watch.{Puts, end_state, used};
 
 use crate::asked::{ReportAsked, ReportFiles};
@@ -17,7 +17,7 @@ use bl_status::setup::given_setup;
 use bl_status::told::put_count;
 use bl_teller::report::report;
 use bl_times::clock::{ClockFault, read_clock};
-use bl_times::mark::Mark;
+use bl_marks::mark::Mark;
 use bl_wire::put::{put, put_out};
 use bl_wire::watched::Watched;
 use std::alloc::{AllocError, Global};

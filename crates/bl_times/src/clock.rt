@@ -1,9 +1,11 @@
 //! The text of a clock.
-ghost use Rattle.std.specs.Prelude.{◌≤◌, [], IfErr, IfOk, length};
-ghost use Rattle.bl_times.specs.Marks.{HasRead, IsClock, IsRising, IsUnread};
+ghost use Rattle.std.specs.Prelude.{IfErr, IfOk};
+ghost use Rattle.bl_marks.specs.Marks.{IsRising};
+ghost use Rattle.bl_times.specs.Clocks.{IsClock, IsUnread};
 
-use crate::kept::put_mark;
-use crate::mark::{Mark, mark_of};
+use crate::line::mark_of;
+use bl_marks::kept::put_mark;
+use bl_marks::mark::Mark;
 use bl_trail::follow::first_line;
 use std::alloc::{AllocError, Global};
 

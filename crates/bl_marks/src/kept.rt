@@ -1,6 +1,6 @@
 //! The marks that stand, and by when an event was kept.
 ghost use Rattle.std.specs.Prelude.{◌≡◌, ◌↔◌, IsTrue, OnOk, filter};
-ghost use Rattle.bl_times.specs.Marks.{IsOneDay, IsRising, IsSameDay, has_fewer, kept_by, with_mark};
+ghost use Rattle.bl_marks.specs.Marks.{IsOneDay, IsRising, IsSameDay, has_fewer, kept_by, with_mark};
 
 use crate::mark::Mark;
 use std::alloc::AllocError;
@@ -19,7 +19,7 @@ fn clear_for(marks: &mut Vec<Mark>, mark: &Mark)
 }
 
 /// Puts a mark behind those that stand, and takes away those whose place it takes.
-pub(crate) fn put_mark(marks: &mut Vec<Mark>, mark: Mark) -> Result<(), AllocError>
+pub fn put_mark(marks: &mut Vec<Mark>, mark: Mark) -> Result<(), AllocError>
     requires { IsRising marks.old.items }
     ensures marks { OnOk result (marks.new.items ≡ with_mark marks.old.items mark) }
     ensures rising { OnOk result (IsRising marks.new.items) }

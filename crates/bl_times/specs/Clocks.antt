@@ -1,10 +1,11 @@
 -- By when the events of a trail were kept, as the lines of a clock say.
-use Rattle.std.specs.Prelude.{◌≡◌, ◌<◌, ◌^◌, ◌+◌, ◌==◌, ℕ, Bool, List, [], ◌∷◌, ◌++◌, Option, IsTrue, All, codes, decimal, filter, find, flat_map, fold, length, nat_le, nat_lt, take, if◌then◌else◌}
+use Rattle.std.specs.Prelude.{◌≡◌, ◌<◌, ◌^◌, ◌+◌, ◌==◌, ℕ, Bool, List, [], ◌∷◌, ◌++◌, IsTrue, codes, decimal, flat_map, length, if◌then◌else◌}
 use Rattle.std.specs.List.{list_all, zip}
 use Rattle.std.specs.Char.{is_ascii_digit}
 use Rattle.bl_trail.specs.Asks.{HasNo}
 use Rattle.bl_trail.specs.Follow.{IsLine}
-use Rattle.bl_times.specs.declared.mark.Mark.{Mark}
+use Rattle.bl_marks.specs.Marks.{standing}
+use Rattle.bl_marks.specs.declared.mark.Mark.{Mark}
 use Rattle.bl_times.specs.declared.clock.ClockFault.{ClockFault}
 use Rattle.bl_times.specs.declared.clock.ClockFault.TheVariants.{WrongAt, Memory}
 
@@ -38,27 +39,6 @@ pub record IsMarkLine (line : List ℕ) (mark : Mark) : Type 0 where
 abbrev pub IsNoMarkLine : List ℕ → Type 0
 IsNoMarkLine line = (mark : Mark) → IsMarkLine line mark → ⊥
 
--- a mark has fewer events than another
-abbrev pub has_fewer : Mark → Mark → Bool
-has_fewer mark other = nat_lt other.events mark.events
-
--- a later mark takes the place of those before it that have as many events, or more
-abbrev pub with_mark : List Mark → Mark → List Mark
-with_mark marks mark = filter (has_fewer mark) marks ++ mark ∷ []
-
--- of the marks of a clock those that stand
-abbrev pub standing : List Mark → List Mark
-standing marks = fold with_mark [] marks
-
--- each of these marks has fewer events than those behind it
-abbrev pub IsRising : List Mark → Type 0
-IsRising [] = Unit {0}
-IsRising (mark ∷ marks) = IsTrue (list_all (λ later. has_fewer later mark) marks) × IsRising marks
-
--- by when the event of this number was kept: the first mark that has as many
-abbrev pub kept_by : List Mark → ℕ → Option Mark
-kept_by marks event = find (λ mark. nat_le event mark.events) marks
-
 -- a text is that of the lines of these marks, and then something else
 abbrev pub HasRead : List ℕ → List ℕ → List Mark → Type 0
 HasRead text rest marks = text ≡ flat_map (λ mark. mark_line mark ++ 10 ∷ []) marks ++ rest
@@ -85,12 +65,3 @@ pub record IsWrongAt (text : List ℕ) (number : ℕ) : Type 0 where
 abbrev pub IsUnread : List ℕ → ClockFault → Type 0
 IsUnread text (WrongAt number) = IsWrongAt text number
 IsUnread text Memory = Unit {0}
-
--- two times are of one day
-abbrev pub IsSameDay : Mark → Mark → Type 0
-IsSameDay mark other = take 10 mark.time ≡ take 10 other.time
-
--- all are
-abbrev pub IsOneDay : List Mark → Type 0
-IsOneDay [] = Unit {0}
-IsOneDay (first ∷ marks) = All (λ mark. IsSameDay mark first) (first ∷ marks)

@@ -1,24 +1,13 @@
 //! A line of a clock.
 ghost use Rattle.std.specs.Prelude.{◌≡◌, ◌↔◌, IsTrue, MatchOption, decimal};
-ghost use Rattle.bl_times.specs.Marks.{HasTimeForm, IsMarkLine, IsNoDecimal, IsNoMarkLine, fits_form};
+ghost use Rattle.bl_times.specs.Clocks.{HasTimeForm, IsMarkLine, IsNoDecimal, IsNoMarkLine, fits_form};
 
+use bl_marks::mark::{Mark, TIME_BYTES};
 use bl_trail::ask::{number, split_word};
 use itoa::Buffer;
 
-/// How many bytes a time has.
-pub const TIME_BYTES: usize = 24;
-
 /// How a time is spelled: in place of each `0` stands a digit.
 const FORM: &[u8] = b"0000-00-00T00:00:00.000Z";
-
-/// That so many events were kept at this time.
-#[derive(Clone, Copy, PartialEq, Eq, Debug)]
-pub struct Mark {
-    /// How many.
-    pub events: u32,
-    /// When, spelled as `2026-11-27T01:30:05.123Z`.
-    pub time: [u8; TIME_BYTES],
-}
 
 /// Whether a byte is that of the form, or a digit where the form has a `0`.
 fn fits_form(form: u8, byte: u8) -> bool
