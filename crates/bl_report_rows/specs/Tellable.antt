@@ -46,8 +46,8 @@ HoldsFormer scheme (former.Present bytes rights) = Unit {0}
 -- what a done rule names, and the levels of its change
 pub record HoldsChange (names : KnownNames) (rule : Rule) (before : Former) : Type 0 where
   pub ids : HasIdsBelow (length names.subjects) (length names.documents) rule
-  pub rule : HoldsRule names.scheme rule
-  pub before : HoldsFormer names.scheme before
+  pub level : HoldsRule names.scheme rule
+  pub former : HoldsFormer names.scheme before
 
 abbrev pub HoldsHappening : KnownNames → Happening → Type 0
 HoldsHappening names (Opened session) = Unit {0}

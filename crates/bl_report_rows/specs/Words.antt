@@ -1,5 +1,5 @@
 -- The words of a report's rows. All of them are own choices.
-use Rattle.std.specs.Prelude.{◌==◌, ℕ, Bool, true, false, List, [], ◌∷◌, codes, decimal, if◌then◌else◌}
+use Rattle.std.specs.Prelude.{ℕ, Bool, true, false, List, [], ◌∷◌, codes, decimal, not, if◌then◌else◌}
 use Rattle.bl_level.specs.Level.{SecurityLevel}
 use Rattle.bl_policy.specs.declared.access.Mode.{Mode}
 use Rattle.bl_policy.specs.declared.access.Mode.TheVariants.{Read, Append, Write}
@@ -38,9 +38,14 @@ abbrev pub why_words : KnownNames → ℕ → Clause → Blame → List ℕ
 why_words names s clause (OfAccess judged) = reason names s judged.access judged.grounds clause
 why_words names s clause (OfRule rule grounds) = rule_reason names s rule grounds clause
 
+-- two answers are one
+abbrev pub is_same : Bool → Bool → Bool
+is_same true other = other
+is_same false other = not other
+
 -- that a right is as it was
 abbrev pub unchanged_words : Bool → Former → List ℕ
-unchanged_words wanted (former.Right had) = if had == wanted then codes ", as before" else []
+unchanged_words wanted (former.Right had) = if is_same had wanted then codes ", as before" else []
 unchanged_words wanted (former.Level level) = []
 unchanged_words wanted former.Absent = []
 unchanged_words wanted (former.Present bytes rights) = []

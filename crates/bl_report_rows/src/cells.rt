@@ -39,7 +39,7 @@ pub fn document_cell(view: &View<'_>, doc: DocId) -> Result<Cell, AllocError>
 /// The name of a document, or a dash where there is none.
 pub fn object_cell(view: &View<'_>, doc: Option<DocId>) -> Result<Cell, AllocError>
     requires { IfSome doc (λ o. o < length view.now.names.now.documents) }
-    ensures { IfOk result (λ cell. cell ≡ object_text view.now.names.now doc) }
+    ensures { IfOk result (λ cell. cell ≡ object_text view.now doc) }
 {
     match doc {
         Some(doc) => document_cell(view, doc),

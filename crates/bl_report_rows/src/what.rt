@@ -3,7 +3,7 @@ ghost use Rattle.std.specs.Prelude.{◌≡◌, ◌<◌, IfOk, length};
 ghost use Rattle.bl_level.specs.Scheme.{HoldsLevel};
 ghost use Rattle.bl_policy.specs.RuleEffect.{HasIdsBelow};
 ghost use Rattle.bl_report_rows.specs.Tellable.{HoldsFormer, HoldsRule};
-ghost use Rattle.bl_report_rows.specs.Words.{changed_words, fallen_words, right_words, set_words, there_words, unchanged_words, was_words, with_it_words};
+ghost use Rattle.bl_report_rows.specs.Words.{changed_words, fallen_words, is_same, right_words, set_words, there_words, unchanged_words, was_words, with_it_words};
 
 use crate::cells::put_number;
 use crate::filter::falls;
@@ -16,12 +16,19 @@ use bl_policy::rule::Rule;
 use bl_report::item::Former;
 use std::alloc::AllocError;
 
+/// Whether two answers are one.
+fn is_same(answer: bool, other: bool) -> bool
+    ensures { result ≡ is_same answer other }
+{
+    if answer { other } else { !other }
+}
+
 /// That a right is as it was before, where it is.
 fn unchanged_words(wanted: bool, before: &Former) -> &'static [u8]
     ensures { result.now ≡ unchanged_words wanted before.now }
 {
     match before {
-        Former::Right(had) if *had == wanted => b", as before",
+        Former::Right(had) if is_same(*had, wanted) => b", as before",
         _ => b"",
     }
 }

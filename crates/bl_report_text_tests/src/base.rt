@@ -20,19 +20,13 @@ pub struct Ended {
 pub struct Day {
     pub setup: String,
     pub trail: String,
-    pub clock: String,
 }
 
 /// The day.
 pub fn day<R: Files + AllocGlobal>(rt: &R) -> Result<Day, Fail> {
     let setup = fs::read_to_string(rt, "office.setup")?;
     let trail = fs::read_to_string(rt, "office.trail")?;
-    let clock = fs::read_to_string(rt, "office.clock")?;
-    Ok(Day {
-        setup,
-        trail,
-        clock,
-    })
+    Ok(Day { setup, trail })
 }
 
 impl Day {
@@ -41,7 +35,6 @@ impl Day {
         ReportFiles {
             setup: self.setup.as_bytes(),
             trail: self.trail.as_bytes(),
-            clock: Some(self.clock.as_bytes()),
             beside: None,
         }
     }

@@ -8,8 +8,6 @@ pub struct ReportFiles<'a> {
     pub setup: &'a [u8],
     /// Those of the trail.
     pub trail: &'a [u8],
-    /// Those of the clock beside the trail, where one stands.
-    pub clock: Option<&'a [u8]>,
     /// Those of the setup beside the trail, where one stands.
     pub beside: Option<&'a [u8]>,
 }

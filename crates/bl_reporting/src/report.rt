@@ -2,7 +2,6 @@
 ghost use Rattle.std.specs.Prelude.{◌≡◌, ◌≤◌, [], false, IfErr, IfOk, OnOk};
 ghost use Rattle.bl_reporting.specs.Runs.{HasReported, HasReadClock, IsBeside, IsReportRun, IsUnreported, of_rebuild, status_for};
 ghost use Rattle.bl_status.specs.Status.{IsStatus};
-ghost use Rattle.bl_marks.specs.Marks.{IsRising};
 ghost use Rattle.bl_wire.specs.Watch.{Puts, end_state, used};
 
 use crate::asked::{ReportAsked, ReportFiles};
@@ -14,13 +13,9 @@ use bl_setup::setup::Setup;
 use bl_state::laws::read_setups_are_whole;
 use bl_status::fault::ProgramFault;
 use bl_status::setup::given_setup;
-use bl_status::told::put_count;
 use bl_teller::report::report;
-use bl_times::clock::{ClockFault, read_clock};
-use bl_marks::mark::Mark;
-use bl_wire::put::{put, put_out};
 use bl_wire::watched::Watched;
-use std::alloc::{AllocError, Global};
+use std::alloc::Global;
 use std::io::Write;
 
 /// Whether the setup beside the trail, where one stands, has the bytes of the setup file.
@@ -64,38 +59,15 @@ fn report_of(alloc: Global, files: &ReportFiles<'_>) -> Result<Report, ReportFau
     }
 }
 
-/// The marks of the clock, if there is one. Of a clock that is none the first wrong line is told on `errors`, and it is left
-/// out.
-fn marks_of<E: Write>(
-    alloc: Global,
-    clock: Option<&[u8]>,
-    errors: &mut Watched<E>,
-) -> Result<Vec<Mark>, AllocError> {
-    let Some(text) = clock else {
-        return Ok(Vec::new(alloc));
-    };
-    match read_clock(alloc, text) {
-        Ok(marks) => Ok(marks),
-        Err(ClockFault::WrongAt(line)) => {
-            put(errors, b"clock: line ");
-            put_count(errors, line);
-            put_out(errors, b"\n");
-            Ok(Vec::new(alloc))
-        }
-        Err(ClockFault::Memory) => Err(AllocError),
-    }
-}
-
 /// Puts the report of a trail, and gives the status; or says why not.
 fn write_report<W: Write>(
     alloc: Global,
-    marks: &[Mark],
     files: &ReportFiles<'_>,
     asked: &ReportAsked<'_>,
     writer: &mut Watched<W>,
 ) -> Result<u8, ReportFault> {
     let report = report_of(alloc, files)?;
-    let put = put_told(alloc, &report, marks, files, asked, writer);
+    let put = put_told(alloc, &report, files, asked, writer);
     let status = status_for(report.end);
     drop(report);
     put?;
@@ -110,8 +82,7 @@ fn write_report<W: Write>(
 /// The report is written on `writer` as it is made: the verdict and the checksums of both files first, then each item that
 /// is wanted, as text or as lines of JSON. An open or torn trail is told up to where it is right. Nothing is written, and
 /// the fault is told on `errors`, where the setup's bytes are no setup, the setup beside the trail has other bytes, the head
-/// of the trail is wrong or is of version 1, or what is asked for is not there, in this order. A clock that is none is left
-/// out, and its first wrong line is told on `errors`. Only a first part is written where a growth was refused or the output
+/// of the trail is wrong or is of version 1, or what is asked for is not there, in this order. Only a first part is written where a growth was refused or the output
 /// failed. The result is the status of the run: 0 where the trail is right, 1 where a line is not, 2 where what is asked for
 /// is not there, 4 when out of memory, and 3 for any other fault.
 pub fn report_on<W: Write, E: Write>(
@@ -121,10 +92,7 @@ pub fn report_on<W: Write, E: Write>(
     writer: &mut Watched<W>,
     errors: &mut Watched<E>,
 ) -> u8 {
-    let Ok(marks) = marks_of(alloc, files.clock, errors) else {
-        return tell_fault(errors, &ReportFault::Program(ProgramFault::NoMemory));
-    };
-    match write_report(alloc, &marks, files, asked, writer) {
+    match write_report(alloc, files, asked, writer) {
         Ok(status) => status,
         Err(fault) => tell_fault(errors, &fault),
     }

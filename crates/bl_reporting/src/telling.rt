@@ -5,7 +5,6 @@ ghost use Rattle.bl_level.specs.Scheme.{HoldsLevel};
 ghost use Rattle.bl_report_rows.specs.Tellable.{IsTellable};
 ghost use Rattle.bl_report_text.specs.Parts.{IsTold};
 ghost use Rattle.bl_reporting.specs.Reports.{IsPutOf, IsUntold, sum_text};
-ghost use Rattle.bl_marks.specs.Marks.{IsRising};
 ghost use Rattle.bl_wire.specs.Watch.{end_state};
 
 use crate::asked::{ReportAsked, ReportFiles};
@@ -18,8 +17,6 @@ use bl_report_rows::tellable::is_tellable;
 use bl_report_rows::view::View;
 use bl_report_text::report::put_report;
 use bl_report_text::told::Told;
-use bl_marks::kept::is_one_day;
-use bl_marks::mark::Mark;
 use bl_wire::watched::Watched;
 use sha2::{Digest, Sha256};
 use std::alloc::{AllocError, Global};
@@ -35,27 +32,24 @@ fn sum_of(alloc: Global, bytes: &[u8]) -> Result<String, AllocError>
 
 /// Whether all of it has names, where the marks of its clock stand.
 fn is_told(told: &Told<'_>) -> bool
-    requires { IsRising told.now.view.marks.now }
     ensures { IsTrue result ↔ IsTold told.now }
 {
     let names = told.view.names;
     names.scheme().holds(&told.label) && told.items.iter().all(|item| is_tellable(names, item))
 }
 
-/// Puts a report by these marks, in the form and with the filter that are asked for; or why it is not put, or not whole.
+/// Puts a report, in the form and with the filter that are asked for; or why it is not put, or not whole.
 /// Nothing is put where the filter asks for what is not there, or an item names something without a name.
 pub fn put_told<W: Write>(
     alloc: Global,
     report: &Report,
-    marks: &[Mark],
     files: &ReportFiles<'_>,
     asked: &ReportAsked<'_>,
     writer: &mut Watched<W>,
 ) -> Result<(), ReportFault>
-    requires { IsRising marks.now }
-    ensures put { IfOk result (λ _. IsPutOf report.now marks.now files.now asked.now
+    ensures put { IfOk result (λ _. IsPutOf report.now files.now asked.now
         (end_state W.contents writer.old) (end_state W.contents writer.new)) }
-    ensures fault { IfErr result (IsUntold report.now marks.now files.now asked.now
+    ensures fault { IfErr result (IsUntold report.now files.now asked.now
         (end_state W.contents writer.old) (end_state W.contents writer.new)) }
 {
     let hall = &report.hall;
@@ -69,8 +63,8 @@ pub fn put_told<W: Write>(
             alloc,
             names: setup.names(),
             entries: &entries,
-            marks,
-            is_one_day: is_one_day(marks),
+            times: &[],
+            is_one_day: false,
             filter,
         },
         items: &report.items,
