@@ -31,10 +31,13 @@ time_text view event = time_by view.is_one_day (slice_get view.times.now event)
 abbrev pub is_timed : View → Bool
 is_timed view = not (length view.times.now == 0)
 
+-- behind a row by when an event was kept, where there is a clock
+abbrev pub with_time : View → ℕ → List (List ℕ) → List (List ℕ)
+with_time view event row = if is_timed view then row ++ time_text view event ∷ [] else row
+
 -- each row begins with its event, and by when that was kept, where there is a clock
 abbrev pub first_cells : View → ℕ → List (List ℕ)
-first_cells view event =
-    if is_timed view then row_behind [] (decimal event ∷ time_text view event ∷ []) else row_behind [] (decimal event ∷ [])
+first_cells view event = with_time view event (decimal event ∷ [])
 
 abbrev pub first_heads : View → List ℕ → List (List ℕ)
 first_heads view word = if is_timed view then row_behind [] (word ∷ codes "kept by" ∷ []) else row_behind [] (word ∷ [])

@@ -36,10 +36,21 @@ document_of (Altered place access before after) = Some access.doc
 document_of (Done place) = None
 document_of (Lost place ran) = None
 
+-- the level that stood before
+abbrev pub level_before : Former → Option SecurityLevel
+level_before (former.Right had) = None
+level_before (former.Level level) = Some level
+level_before former.Absent = None
+level_before (former.Present bytes rights) = None
+
 -- the level of a document before a rule that changes it
 abbrev pub former_level : Rule → Former → Option SecurityLevel
-former_level (Classify o level) (former.Level earlier) = Some earlier
-former_level rule before = None
+former_level (Give t o m) before = None
+former_level (Rescind t o m) before = None
+former_level (Current level) before = None
+former_level (Classify o level) before = level_before before
+former_level (Create o) before = None
+former_level (Delete o) before = None
 
 abbrev pub blamed_level : Blame → Option SecurityLevel
 blamed_level (OfAccess judged) = Some judged.grounds.level
@@ -60,21 +71,107 @@ level_of (Lost place ran) = None
 abbrev pub falls : SecurityLevel → SecurityLevel → Bool
 falls level earlier = not (dominates level earlier)
 
+abbrev pub falls_from : SecurityLevel → Former → Bool
+falls_from level (former.Right had) = false
+falls_from level (former.Level earlier) = falls level earlier
+falls_from level former.Absent = false
+falls_from level (former.Present bytes rights) = false
+
 -- a rule brought a document down
 abbrev pub rule_falls : Rule → Former → Bool
-rule_falls (Classify o level) (former.Level earlier) = falls level earlier
-rule_falls rule before = false
+rule_falls (Give t o m) before = false
+rule_falls (Rescind t o m) before = false
+rule_falls (Current level) before = false
+rule_falls (Classify o level) before = falls_from level before
+rule_falls (Create o) before = false
+rule_falls (Delete o) before = false
+
+-- an access was granted
+abbrev pub is_held : Happening → Bool
+is_held (Opened session) = false
+is_held (Admitted place origin weight) = false
+is_held (Held place judged until) = true
+is_held (Denied place clause blame) = false
+is_held (Changed place rule before) = false
+is_held (Altered place access before after) = false
+is_held (Done place) = false
+is_held (Lost place ran) = false
+
+-- an access was granted by exemption alone
+abbrev pub is_exempt_held : Happening → Bool
+is_exempt_held (Opened session) = false
+is_exempt_held (Admitted place origin weight) = false
+is_exempt_held (Held place judged until) = is_exempt judged.grounds judged.access.mode
+is_exempt_held (Denied place clause blame) = false
+is_exempt_held (Changed place rule before) = false
+is_exempt_held (Altered place access before after) = false
+is_exempt_held (Done place) = false
+is_exempt_held (Lost place ran) = false
+
+-- an access is still held at the end
+abbrev pub is_running : Happening → Bool
+is_running (Opened session) = false
+is_running (Admitted place origin weight) = false
+is_running (Held place judged until) = is_none until
+is_running (Denied place clause blame) = false
+is_running (Changed place rule before) = false
+is_running (Altered place access before after) = false
+is_running (Done place) = false
+is_running (Lost place ran) = false
+
+-- something was denied
+abbrev pub is_refused : Happening → Bool
+is_refused (Opened session) = false
+is_refused (Admitted place origin weight) = false
+is_refused (Held place judged until) = false
+is_refused (Denied place clause blame) = true
+is_refused (Changed place rule before) = false
+is_refused (Altered place access before after) = false
+is_refused (Done place) = false
+is_refused (Lost place ran) = false
+
+-- a rule was done
+abbrev pub is_changed : Happening → Bool
+is_changed (Opened session) = false
+is_changed (Admitted place origin weight) = false
+is_changed (Held place judged until) = false
+is_changed (Denied place clause blame) = false
+is_changed (Changed place rule before) = true
+is_changed (Altered place access before after) = false
+is_changed (Done place) = false
+is_changed (Lost place ran) = false
+
+-- a document was brought down
+abbrev pub is_down : Happening → Bool
+is_down (Opened session) = false
+is_down (Admitted place origin weight) = false
+is_down (Held place judged until) = false
+is_down (Denied place clause blame) = false
+is_down (Changed place rule before) = rule_falls rule before
+is_down (Altered place access before after) = false
+is_down (Done place) = false
+is_down (Lost place ran) = false
+
+-- an entry was lost
+abbrev pub is_lost : Happening → Bool
+is_lost (Opened session) = false
+is_lost (Admitted place origin weight) = false
+is_lost (Held place judged until) = false
+is_lost (Denied place clause blame) = false
+is_lost (Changed place rule before) = false
+is_lost (Altered place access before after) = false
+is_lost (Done place) = false
+is_lost (Lost place ran) = true
 
 -- this became of something
 abbrev pub has_outcome : Happening → Outcome → Bool
-has_outcome (Held place judged until) outcome.Held = true
-has_outcome (Held place judged until) outcome.Exempt = is_exempt judged.grounds judged.access.mode
-has_outcome (Held place judged until) outcome.Running = is_none until
-has_outcome (Denied place clause blame) outcome.Refused = true
-has_outcome (Changed place rule before) outcome.Changed = true
-has_outcome (Changed place rule before) outcome.Down = rule_falls rule before
-has_outcome (Lost place ran) outcome.Lost = true
-has_outcome happening wanted = false
+has_outcome happening outcome.Held = is_held happening
+has_outcome happening outcome.Refused = is_refused happening
+has_outcome happening outcome.Changed = is_changed happening
+has_outcome happening outcome.Exempt = is_exempt_held happening
+has_outcome happening outcome.Down = is_down happening
+has_outcome happening outcome.Lost = is_lost happening
+has_outcome happening outcome.Running = is_running happening
 
 abbrev pub is_subject : Option ℕ → ℕ → Bool
 is_subject (Some wanted) subject = wanted == subject

@@ -99,21 +99,84 @@ is_open None = false
 abbrev pub stands_open : View → ℕ → Bool
 stands_open view place = is_open (slice_get view.entries.now place)
 
--- the texts of an item in a section, by what happened: none, where the section does not tell it
-abbrev pub told_in : View → Section → ReportItem → Happening → List (List ℕ)
-told_in view section item (happening.Held place judged until) =
-    if is_held section judged then held_cells view item place judged until else []
-told_in view Refused item (happening.Denied place clause blame) = denied_cells view item place clause blame
-told_in view Changed item (happening.Changed place rule before) = changed_cells view item place rule before
-told_in view Altered item (happening.Altered place access before after) = altered_cells view item place access before after
-told_in view Lost item (happening.Lost place ran) = lost_cells view item place ran
-told_in view NotEnded item (happening.Admitted place origin weight) =
-    if stands_open view place then entry_cells view item place else []
-told_in view section item other = []
+-- a section tells what was denied
+abbrev pub is_refused : Section → Bool
+is_refused Held = false
+is_refused Refused = true
+is_refused Changed = false
+is_refused Altered = false
+is_refused Exempt = false
+is_refused Carried = false
+is_refused Lost = false
+is_refused NotEnded = false
 
-abbrev pub cells_of : View → Section → ReportItem → List (List ℕ)
-cells_of view section item = told_in view section item item.happening
+-- a section tells what rules changed
+abbrev pub is_changed : Section → Bool
+is_changed Held = false
+is_changed Refused = false
+is_changed Changed = true
+is_changed Altered = false
+is_changed Exempt = false
+is_changed Carried = false
+is_changed Lost = false
+is_changed NotEnded = false
 
--- and where it is not wanted
+-- a section tells what appends and writes did
+abbrev pub is_altered : Section → Bool
+is_altered Held = false
+is_altered Refused = false
+is_altered Changed = false
+is_altered Altered = true
+is_altered Exempt = false
+is_altered Carried = false
+is_altered Lost = false
+is_altered NotEnded = false
+
+-- a section tells the entries that were lost
+abbrev pub is_lost : Section → Bool
+is_lost Held = false
+is_lost Refused = false
+is_lost Changed = false
+is_lost Altered = false
+is_lost Exempt = false
+is_lost Carried = false
+is_lost Lost = true
+is_lost NotEnded = false
+
+-- a section tells the entries that have not ended
+abbrev pub is_not_ended : Section → Bool
+is_not_ended Held = false
+is_not_ended Refused = false
+is_not_ended Changed = false
+is_not_ended Altered = false
+is_not_ended Exempt = false
+is_not_ended Carried = false
+is_not_ended Lost = false
+is_not_ended NotEnded = true
+
+-- a section tells an item
+abbrev pub tells : View → Section → Happening → Bool
+tells view section (happening.Held place judged until) = is_held section judged
+tells view section (happening.Denied place clause blame) = is_refused section
+tells view section (happening.Changed place rule before) = is_changed section
+tells view section (happening.Altered place access before after) = is_altered section
+tells view section (happening.Lost place ran) = is_lost section
+tells view section (happening.Admitted place origin weight) = is_not_ended section && stands_open view place
+tells view section (happening.Opened session) = false
+tells view section (happening.Done place) = false
+
+-- the texts of an item, by what happened
+abbrev pub cells_of : View → ReportItem → Happening → List (List ℕ)
+cells_of view item (happening.Held place judged until) = held_cells view item place judged until
+cells_of view item (happening.Denied place clause blame) = denied_cells view item place clause blame
+cells_of view item (happening.Changed place rule before) = changed_cells view item place rule before
+cells_of view item (happening.Altered place access before after) = altered_cells view item place access before after
+cells_of view item (happening.Lost place ran) = lost_cells view item place ran
+cells_of view item (happening.Admitted place origin weight) = entry_cells view item place
+cells_of view item (happening.Opened session) = []
+cells_of view item (happening.Done place) = []
+
+-- the row of an item in a section: none, where the section does not tell it, or it is not wanted
 abbrev pub row_of : View → Section → ReportItem → List (List ℕ)
-row_of view section item = if is_wanted view.filter item then cells_of view section item else []
+row_of view section item =
+    if is_wanted view.filter item && tells view section item.happening then cells_of view item item.happening else []

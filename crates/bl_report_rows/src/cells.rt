@@ -1,8 +1,8 @@
 //! The texts of a row.
-ghost use Rattle.std.specs.Prelude.{◌≡◌, ◌<◌, ◌∷◌, [], IfOk, IfSome, OnOk, decimal, length};
+ghost use Rattle.std.specs.Prelude.{◌≡◌, ◌<◌, ◌∷◌, ◌++◌, [], IfOk, IfSome, OnOk, decimal, length};
 ghost use Rattle.bl_level.specs.Scheme.{HoldsLevel};
 ghost use Rattle.bl_explain_text.specs.Reasons.{behind, document_name, level_name, subject_name};
-ghost use Rattle.bl_report_rows.specs.Cells.{first_cells, lacks_day, line_of, line_text, object_text, shown_time, time_text, until_text};
+ghost use Rattle.bl_report_rows.specs.Cells.{first_cells, lacks_day, line_of, line_text, object_text, shown_time, time_text, until_text, with_time};
 
 use crate::entry::Entry;
 use crate::view::View;
@@ -20,40 +20,64 @@ pub fn put_number(text: &mut Vec<u8>, number: u64) -> Result<(), AllocError>
     text.extend_from_slice(digits.format(number).as_bytes())
 }
 
-/// The name of a subject.
-pub fn subject_cell(view: &View<'_>, subject: SubjectId) -> Result<Cell, AllocError>
+/// Puts a cell behind a row.
+pub fn add(row: &mut Vec<Cell>, cell: Cell) -> Result<(), AllocError>
+    ensures { OnOk result (row.new.items ≡ row.old.items ++ cell ∷ []) }
+{
+    row.push(cell)?;
+    Ok(())
+}
+
+/// Puts a word behind a row.
+pub fn add_word(row: &mut Vec<Cell>, alloc: Global, word: &[u8]) -> Result<(), AllocError>
+    ensures { OnOk result (row.new.items ≡ row.old.items ++ word.now ∷ []) }
+{
+    let cell = Cell::of(alloc, word)?;
+    add(row, cell)
+}
+
+/// Puts the name of a subject behind a row.
+pub fn add_subject(
+    row: &mut Vec<Cell>,
+    view: &View<'_>,
+    subject: SubjectId,
+) -> Result<(), AllocError>
     requires { subject < length view.now.names.now.subjects }
-    ensures { IfOk result (λ cell. cell ≡ subject_name view.now.names.now subject) }
+    ensures { OnOk result (row.new.items ≡ row.old.items ++ subject_name view.now.names.now subject ∷ []) }
 {
-    Cell::of(view.alloc, view.names.subject_name(subject).bytes())
+    add_word(row, view.alloc, view.names.subject_name(subject).bytes())
 }
 
-/// The name of a document.
-pub fn document_cell(view: &View<'_>, doc: DocId) -> Result<Cell, AllocError>
+/// Puts the name of a document behind a row.
+pub fn add_document(row: &mut Vec<Cell>, view: &View<'_>, doc: DocId) -> Result<(), AllocError>
     requires { doc < length view.now.names.now.documents }
-    ensures { IfOk result (λ cell. cell ≡ document_name view.now.names.now doc) }
+    ensures { OnOk result (row.new.items ≡ row.old.items ++ document_name view.now.names.now doc ∷ []) }
 {
-    Cell::of(view.alloc, view.names.document_name(doc).bytes())
+    add_word(row, view.alloc, view.names.document_name(doc).bytes())
 }
 
-/// The name of a document, or a dash where there is none.
-pub fn object_cell(view: &View<'_>, doc: Option<DocId>) -> Result<Cell, AllocError>
+/// Puts the name of a document behind a row, or a dash where there is none.
+pub fn add_object(
+    row: &mut Vec<Cell>,
+    view: &View<'_>,
+    doc: Option<DocId>,
+) -> Result<(), AllocError>
     requires { IfSome doc (λ o. o < length view.now.names.now.documents) }
-    ensures { IfOk result (λ cell. cell ≡ object_text view.now doc) }
+    ensures { OnOk result (row.new.items ≡ row.old.items ++ object_text view.now doc ∷ []) }
 {
     match doc {
-        Some(doc) => document_cell(view, doc),
-        None => Cell::of(view.alloc, b"-"),
+        Some(doc) => add_document(row, view, doc),
+        None => add_word(row, view.alloc, b"-"),
     }
 }
 
-/// The text of a level.
-pub fn level_cell(view: &View<'_>, level: &Level) -> Result<Cell, AllocError>
+/// Puts the text of a level behind a row.
+pub fn add_level(row: &mut Vec<Cell>, view: &View<'_>, level: &Level) -> Result<(), AllocError>
     requires { HoldsLevel view.now.names.now.scheme level.now }
-    ensures { IfOk result (λ cell. cell ≡ level_name view.now.names.now level.now) }
+    ensures { OnOk result (row.new.items ≡ row.old.items ++ level_name view.now.names.now level.now ∷ []) }
 {
     let text = view.names.scheme().write_level(level)?;
-    Ok(Cell::new(text))
+    add(row, Cell::new(text))
 }
 
 /// Whether a time is shown without its day.
@@ -86,13 +110,16 @@ pub fn time_cell(view: &View<'_>, event: u32) -> Result<Cell, AllocError>
     }
 }
 
-/// The event from which on something is over, or a dash where it is not.
-pub fn until_cell(alloc: Global, until: Option<u32>) -> Result<Cell, AllocError>
-    ensures { IfOk result (λ cell. cell ≡ until_text until) }
+/// Puts behind a row the event from which on something is over, or a dash where it is not.
+pub fn add_until(row: &mut Vec<Cell>, alloc: Global, until: Option<u32>) -> Result<(), AllocError>
+    ensures { OnOk result (row.new.items ≡ row.old.items ++ until_text until ∷ []) }
 {
     match until {
-        Some(event) => Cell::number(alloc, u64::from(event)),
-        None => Cell::of(alloc, b"-"),
+        Some(event) => {
+            let cell = Cell::number(alloc, u64::from(event))?;
+            add(row, cell)
+        }
+        None => add_word(row, alloc, b"-"),
     }
 }
 
@@ -117,14 +144,32 @@ pub fn line_cell(view: &View<'_>, place: u32) -> Result<Cell, AllocError>
     }
 }
 
+/// Puts behind a row the line that the entry of this place is, or descends from.
+pub fn add_line(row: &mut Vec<Cell>, view: &View<'_>, place: u32) -> Result<(), AllocError>
+    ensures { OnOk result (row.new.items ≡ row.old.items ++ line_text view.now place ∷ []) }
+{
+    let cell = line_cell(view, place)?;
+    add(row, cell)
+}
+
+/// Puts by when an event was kept behind a row, where there is a clock.
+fn add_time(row: &mut Vec<Cell>, view: &View<'_>, event: u32) -> Result<(), AllocError>
+    ensures { OnOk result (row.new.items ≡ with_time view.now event row.old.items) }
+{
+    if !view.is_timed() {
+        return Ok(());
+    }
+    let cell = time_cell(view, event)?;
+    add(row, cell)
+}
+
 /// How each row begins: with its event, and by when that was kept, where there is a clock.
 pub fn first_cells(view: &View<'_>, event: u32) -> Result<Vec<Cell>, AllocError>
     ensures { IfOk result (λ row. row.items ≡ first_cells view.now event) }
 {
+    let number = Cell::number(view.alloc, u64::from(event))?;
     let mut row = Vec::new(view.alloc);
-    row.push(Cell::number(view.alloc, u64::from(event))?)?;
-    if view.is_timed() {
-        row.push(time_cell(view, event)?)?;
-    }
+    add(&mut row, number)?;
+    add_time(&mut row, view, event)?;
     Ok(row)
 }

@@ -1,6 +1,6 @@
 //! Which items of a report are wanted.
 ghost use Rattle.std.specs.Prelude.{◌≡◌};
-ghost use Rattle.bl_report_rows.specs.Filters.{all_wanted, blamed_document, blamed_level, document_of, falls, former_level, has_outcome, is_document, is_outcome, is_subject, is_there, is_wanted, level_of, rule_falls};
+ghost use Rattle.bl_report_rows.specs.Filters.{all_wanted, blamed_document, blamed_level, document_of, falls, falls_from, former_level, has_outcome, is_changed, is_document, is_down, is_exempt_held, is_held, is_lost, is_outcome, is_refused, is_running, is_subject, is_there, is_wanted, level_before, level_of, rule_falls};
 
 use bl_level::level::Level;
 use bl_policy::id::{DocId, SubjectId};
@@ -85,13 +85,27 @@ pub fn document_of(happening: &Happening) -> Option<DocId>
     }
 }
 
+/// The level that stood before.
+fn level_before(before: &Former) -> Option<Level>
+    ensures { result ≡ level_before before.now }
+{
+    match before {
+        Former::Level(level) => Some(*level),
+        Former::Right(_) | Former::Absent | Former::Present { .. } => None,
+    }
+}
+
 /// The level that a document had before a rule, where the rule changes it.
 fn former_level(rule: &Rule, before: &Former) -> Option<Level>
     ensures { result ≡ former_level rule.now before.now }
 {
-    match (rule, before) {
-        (Rule::Classify { .. }, Former::Level(level)) => Some(*level),
-        _ => None,
+    match rule {
+        Rule::Classify { .. } => level_before(before),
+        Rule::Give { .. }
+        | Rule::Rescind { .. }
+        | Rule::Current { .. }
+        | Rule::Create { .. }
+        | Rule::Delete { .. } => None,
     }
 }
 
@@ -128,13 +142,139 @@ pub fn falls(level: &Level, earlier: &Level) -> bool
     !level.dominates(earlier)
 }
 
+/// Whether a level is one that does not dominate the one before it.
+pub fn falls_from(level: &Level, before: &Former) -> bool
+    ensures { result ≡ falls_from level.now before.now }
+{
+    match before {
+        Former::Level(earlier) => falls(level, earlier),
+        Former::Right(_) | Former::Absent | Former::Present { .. } => false,
+    }
+}
+
 /// Whether a rule brought a document down.
 pub fn rule_falls(rule: &Rule, before: &Former) -> bool
     ensures { result ≡ rule_falls rule.now before.now }
 {
-    match (rule, before) {
-        (Rule::Classify { level, .. }, Former::Level(earlier)) => falls(level, earlier),
-        _ => false,
+    match rule {
+        Rule::Classify { level, .. } => falls_from(level, before),
+        Rule::Give { .. }
+        | Rule::Rescind { .. }
+        | Rule::Current { .. }
+        | Rule::Create { .. }
+        | Rule::Delete { .. } => false,
+    }
+}
+
+/// Whether an access was granted.
+fn is_held(happening: &Happening) -> bool
+    ensures { result ≡ is_held happening.now }
+{
+    match happening {
+        Happening::Held { .. } => true,
+        Happening::Opened { .. }
+        | Happening::Admitted { .. }
+        | Happening::Denied { .. }
+        | Happening::Changed { .. }
+        | Happening::Altered { .. }
+        | Happening::Done { .. }
+        | Happening::Lost { .. } => false,
+    }
+}
+
+/// Whether an access was granted by exemption alone.
+fn is_exempt_held(happening: &Happening) -> bool
+    ensures { result ≡ is_exempt_held happening.now }
+{
+    match happening {
+        Happening::Held { judged, .. } => judged.grounds.is_exempt(judged.access.mode),
+        Happening::Opened { .. }
+        | Happening::Admitted { .. }
+        | Happening::Denied { .. }
+        | Happening::Changed { .. }
+        | Happening::Altered { .. }
+        | Happening::Done { .. }
+        | Happening::Lost { .. } => false,
+    }
+}
+
+/// Whether an access is still held at the end.
+fn is_running(happening: &Happening) -> bool
+    ensures { result ≡ is_running happening.now }
+{
+    match happening {
+        Happening::Held { until, .. } => until.is_none(),
+        Happening::Opened { .. }
+        | Happening::Admitted { .. }
+        | Happening::Denied { .. }
+        | Happening::Changed { .. }
+        | Happening::Altered { .. }
+        | Happening::Done { .. }
+        | Happening::Lost { .. } => false,
+    }
+}
+
+/// Whether something was denied.
+fn is_refused(happening: &Happening) -> bool
+    ensures { result ≡ is_refused happening.now }
+{
+    match happening {
+        Happening::Denied { .. } => true,
+        Happening::Opened { .. }
+        | Happening::Admitted { .. }
+        | Happening::Held { .. }
+        | Happening::Changed { .. }
+        | Happening::Altered { .. }
+        | Happening::Done { .. }
+        | Happening::Lost { .. } => false,
+    }
+}
+
+/// Whether a rule was done.
+fn is_changed(happening: &Happening) -> bool
+    ensures { result ≡ is_changed happening.now }
+{
+    match happening {
+        Happening::Changed { .. } => true,
+        Happening::Opened { .. }
+        | Happening::Admitted { .. }
+        | Happening::Held { .. }
+        | Happening::Denied { .. }
+        | Happening::Altered { .. }
+        | Happening::Done { .. }
+        | Happening::Lost { .. } => false,
+    }
+}
+
+/// Whether a document was brought down.
+fn is_down(happening: &Happening) -> bool
+    ensures { result ≡ is_down happening.now }
+{
+    match happening {
+        Happening::Changed { rule, before, .. } => rule_falls(rule, before),
+        Happening::Opened { .. }
+        | Happening::Admitted { .. }
+        | Happening::Held { .. }
+        | Happening::Denied { .. }
+        | Happening::Altered { .. }
+        | Happening::Done { .. }
+        | Happening::Lost { .. } => false,
+    }
+}
+
+/// Whether an entry was lost.
+fn is_lost(happening: &Happening) -> bool
+    ensures { result ≡ is_lost happening.now }
+{
+    match happening {
+        Happening::Lost { .. } => true,
+        Happening::Opened { .. }
+        | Happening::Admitted { .. }
+        | Happening::Held { .. }
+        | Happening::Denied { .. }
+        | Happening::Changed { .. }
+        | Happening::Altered { .. }
+        | Happening::Done { .. } => false,
     }
 }
 
@@ -142,17 +282,14 @@ pub fn rule_falls(rule: &Rule, before: &Former) -> bool
 fn has_outcome(happening: &Happening, outcome: Outcome) -> bool
     ensures { result ≡ has_outcome happening.now outcome }
 {
-    match (outcome, happening) {
-        (Outcome::Held, Happening::Held { .. }) => true,
-        (Outcome::Exempt, Happening::Held { judged, .. }) => {
-            judged.grounds.is_exempt(judged.access.mode)
-        }
-        (Outcome::Running, Happening::Held { until, .. }) => until.is_none(),
-        (Outcome::Refused, Happening::Denied { .. }) => true,
-        (Outcome::Changed, Happening::Changed { .. }) => true,
-        (Outcome::Down, Happening::Changed { rule, before, .. }) => rule_falls(rule, before),
-        (Outcome::Lost, Happening::Lost { .. }) => true,
-        _ => false,
+    match outcome {
+        Outcome::Held => is_held(happening),
+        Outcome::Refused => is_refused(happening),
+        Outcome::Changed => is_changed(happening),
+        Outcome::Exempt => is_exempt_held(happening),
+        Outcome::Down => is_down(happening),
+        Outcome::Lost => is_lost(happening),
+        Outcome::Running => is_running(happening),
     }
 }
 
@@ -168,20 +305,24 @@ fn is_subject(wanted: Option<SubjectId>, subject: SubjectId) -> bool
 fn is_document(wanted: Option<DocId>, document: Option<DocId>) -> bool
     ensures { result ≡ is_document wanted document }
 {
-    match (wanted, document) {
-        (Some(wanted), Some(document)) => wanted.position() == document.position(),
-        (Some(_), None) => false,
-        (None, _) => true,
+    match wanted {
+        Some(wanted) => match document {
+            Some(document) => wanted.position() == document.position(),
+            None => false,
+        },
+        None => true,
     }
 }
 
 fn is_there(wanted: Option<Level>, level: Option<Level>) -> bool
     ensures { result ≡ is_there wanted level }
 {
-    match (wanted, level) {
-        (Some(wanted), Some(level)) => level.dominates(&wanted),
-        (Some(_), None) => false,
-        (None, _) => true,
+    match wanted {
+        Some(wanted) => match level {
+            Some(level) => level.dominates(&wanted),
+            None => false,
+        },
+        None => true,
     }
 }
 

@@ -56,11 +56,7 @@ fn put_since(text: &mut Vec<u8>, since: Option<u32>) -> Result<(), AllocError>
     }
 }
 
-fn put_carried(
-    view: &View<'_>,
-    text: &mut Vec<u8>,
-    carried: &Level,
-) -> Result<(), AllocError>
+fn put_carried(view: &View<'_>, text: &mut Vec<u8>, carried: &Level) -> Result<(), AllocError>
     requires { HoldsLevel view.now.names.now.scheme carried.now }
     ensures { OnOk result (text.new.items ≡ with_carried view.now.names.now carried.now text.old.items) }
 {

@@ -1,9 +1,10 @@
 //! The sections of a report whose rows are items, and the rows of each.
-ghost use Rattle.std.specs.Prelude.{◌≡◌, ◌∷◌, ◌++◌, [], IfOk, OnOk};
+ghost use Rattle.std.specs.Prelude.{◌≡◌, [], IfOk, OnOk};
 ghost use Rattle.bl_report_rows.specs.Cells.{first_heads};
-ghost use Rattle.bl_report_rows.specs.Sections.{altered_heads, cells_of, changed_heads, denied_heads, entry_heads, event_head, held_heads, heads_of, is_held, lost_heads, row_of, stands_open, title_of};
+ghost use Rattle.bl_report_rows.specs.Sections.{altered_heads, cells_of, changed_heads, denied_heads, entry_heads, event_head, held_heads, heads_of, is_altered, is_changed, is_held, is_lost, is_not_ended, is_refused, lost_heads, row_of, stands_open, tells, title_of};
 ghost use Rattle.bl_report_rows.specs.Tellable.{IsTellable};
 
+use crate::cells::add_word;
 use crate::filter::is_wanted;
 use crate::note::is_carried;
 use crate::rows::{altered_row, changed_row, denied_row, entry_row, held_row, lost_row};
@@ -42,19 +43,13 @@ pub fn title_of(section: Section) -> &'static [u8]
         Section::Refused => b"refused",
         Section::Changed => b"changed",
         Section::Altered => b"altered",
-        Section::Exempt => b"by exemption: held by a trusted subject; else star or carry had refused it",
-        Section::Carried => b"carried: held by children, which alter nothing below what those above them ran at",
+        Section::Exempt =>
+            b"by exemption: held by a trusted subject; else star or carry had refused it",
+        Section::Carried =>
+            b"carried: held by children, which alter nothing below what those above them ran at",
         Section::Lost => b"lost, for want of memory",
         Section::NotEnded => b"not ended",
     }
-}
-
-/// Puts a word behind a row.
-fn add(row: &mut Vec<Cell>, alloc: Global, word: &[u8]) -> Result<(), AllocError>
-    ensures { OnOk result (row.new.items ≡ row.old.items ++ word.now ∷ []) }
-{
-    row.push(Cell::of(alloc, word)?)?;
-    Ok(())
 }
 
 /// The head above the events of a section.
@@ -76,9 +71,9 @@ fn first_heads(view: &View<'_>, word: &[u8]) -> Result<Vec<Cell>, AllocError>
     ensures { IfOk result (λ row. row.items ≡ first_heads view.now word.now) }
 {
     let mut row = Vec::new(view.alloc);
-    add(&mut row, view.alloc, word)?;
+    add_word(&mut row, view.alloc, word)?;
     if view.is_timed() {
-        add(&mut row, view.alloc, b"kept by")?;
+        add_word(&mut row, view.alloc, b"kept by")?;
     }
     Ok(row)
 }
@@ -86,59 +81,59 @@ fn first_heads(view: &View<'_>, word: &[u8]) -> Result<Vec<Cell>, AllocError>
 fn add_held(row: &mut Vec<Cell>, alloc: Global) -> Result<(), AllocError>
     ensures { OnOk result (row.new.items ≡ held_heads row.old.items) }
 {
-    add(row, alloc, b"until")?;
-    add(row, alloc, b"subject")?;
-    add(row, alloc, b"mode")?;
-    add(row, alloc, b"document")?;
-    add(row, alloc, b"level")?;
-    add(row, alloc, b"current")?;
-    add(row, alloc, b"line")?;
-    add(row, alloc, b"")
+    add_word(row, alloc, b"until")?;
+    add_word(row, alloc, b"subject")?;
+    add_word(row, alloc, b"mode")?;
+    add_word(row, alloc, b"document")?;
+    add_word(row, alloc, b"level")?;
+    add_word(row, alloc, b"current")?;
+    add_word(row, alloc, b"line")?;
+    add_word(row, alloc, b"")
 }
 
 fn add_denied(row: &mut Vec<Cell>, alloc: Global) -> Result<(), AllocError>
     ensures { OnOk result (row.new.items ≡ denied_heads row.old.items) }
 {
-    add(row, alloc, b"subject")?;
-    add(row, alloc, b"asked")?;
-    add(row, alloc, b"document")?;
-    add(row, alloc, b"clause")?;
-    add(row, alloc, b"why")?;
-    add(row, alloc, b"line")
+    add_word(row, alloc, b"subject")?;
+    add_word(row, alloc, b"asked")?;
+    add_word(row, alloc, b"document")?;
+    add_word(row, alloc, b"clause")?;
+    add_word(row, alloc, b"why")?;
+    add_word(row, alloc, b"line")
 }
 
 fn add_changed(row: &mut Vec<Cell>, alloc: Global) -> Result<(), AllocError>
     ensures { OnOk result (row.new.items ≡ changed_heads row.old.items) }
 {
-    add(row, alloc, b"by")?;
-    add(row, alloc, b"rule")?;
-    add(row, alloc, b"what")?;
-    add(row, alloc, b"line")
+    add_word(row, alloc, b"by")?;
+    add_word(row, alloc, b"rule")?;
+    add_word(row, alloc, b"what")?;
+    add_word(row, alloc, b"line")
 }
 
 fn add_altered(row: &mut Vec<Cell>, alloc: Global) -> Result<(), AllocError>
     ensures { OnOk result (row.new.items ≡ altered_heads row.old.items) }
 {
-    add(row, alloc, b"subject")?;
-    add(row, alloc, b"mode")?;
-    add(row, alloc, b"document")?;
-    add(row, alloc, b"bytes")?;
-    add(row, alloc, b"line")
+    add_word(row, alloc, b"subject")?;
+    add_word(row, alloc, b"mode")?;
+    add_word(row, alloc, b"document")?;
+    add_word(row, alloc, b"bytes")?;
+    add_word(row, alloc, b"line")
 }
 
 fn add_lost(row: &mut Vec<Cell>, alloc: Global) -> Result<(), AllocError>
     ensures { OnOk result (row.new.items ≡ lost_heads row.old.items) }
 {
-    add(row, alloc, b"subject")?;
-    add(row, alloc, b"what")?;
-    add(row, alloc, b"line")
+    add_word(row, alloc, b"subject")?;
+    add_word(row, alloc, b"what")?;
+    add_word(row, alloc, b"line")
 }
 
 fn add_entry(row: &mut Vec<Cell>, alloc: Global) -> Result<(), AllocError>
     ensures { OnOk result (row.new.items ≡ entry_heads row.old.items) }
 {
-    add(row, alloc, b"subject")?;
-    add(row, alloc, b"line")
+    add_word(row, alloc, b"subject")?;
+    add_word(row, alloc, b"line")
 }
 
 /// The heads of a section.
@@ -183,64 +178,150 @@ fn stands_open(view: &View<'_>, place: u32) -> bool
     }
 }
 
-/// The texts of an item in a section; none where the section does not tell it.
-fn cells_of(
-    view: &View<'_>,
-    section: Section,
-    item: &ReportItem,
-) -> Result<Vec<Cell>, AllocError>
-    requires tellable { IsTellable view.now.names.now item.now }
-    ensures { IfOk result (λ row. row.items ≡ cells_of view.now section item.now) }
+/// A row without texts.
+fn no_row(view: &View<'_>) -> Result<Vec<Cell>, AllocError>
+    ensures { IfOk result (λ row. row.items ≡ []) }
+{
+    Ok(Vec::new(view.alloc))
+}
+
+/// Whether a section tells what was denied.
+fn is_refused(section: Section) -> bool
+    ensures { result ≡ is_refused section }
+{
+    match section {
+        Section::Refused => true,
+        Section::Held
+        | Section::Changed
+        | Section::Altered
+        | Section::Exempt
+        | Section::Carried
+        | Section::Lost
+        | Section::NotEnded => false,
+    }
+}
+
+/// Whether a section tells what rules changed.
+fn is_changed(section: Section) -> bool
+    ensures { result ≡ is_changed section }
+{
+    match section {
+        Section::Changed => true,
+        Section::Held
+        | Section::Refused
+        | Section::Altered
+        | Section::Exempt
+        | Section::Carried
+        | Section::Lost
+        | Section::NotEnded => false,
+    }
+}
+
+/// Whether a section tells what appends and writes did.
+fn is_altered(section: Section) -> bool
+    ensures { result ≡ is_altered section }
+{
+    match section {
+        Section::Altered => true,
+        Section::Held
+        | Section::Refused
+        | Section::Changed
+        | Section::Exempt
+        | Section::Carried
+        | Section::Lost
+        | Section::NotEnded => false,
+    }
+}
+
+/// Whether a section tells the entries that were lost.
+fn is_lost(section: Section) -> bool
+    ensures { result ≡ is_lost section }
+{
+    match section {
+        Section::Lost => true,
+        Section::Held
+        | Section::Refused
+        | Section::Changed
+        | Section::Altered
+        | Section::Exempt
+        | Section::Carried
+        | Section::NotEnded => false,
+    }
+}
+
+/// Whether a section tells the entries that have not ended.
+fn is_not_ended(section: Section) -> bool
+    ensures { result ≡ is_not_ended section }
+{
+    match section {
+        Section::NotEnded => true,
+        Section::Held
+        | Section::Refused
+        | Section::Changed
+        | Section::Altered
+        | Section::Exempt
+        | Section::Carried
+        | Section::Lost => false,
+    }
+}
+
+/// Whether a section tells an item.
+fn tells(view: &View<'_>, section: Section, happening: &Happening) -> bool
+    ensures { result ≡ tells view.now section happening.now }
+{
+    match happening {
+        Happening::Held { judged, .. } => is_held(section, judged),
+        Happening::Denied { .. } => is_refused(section),
+        Happening::Changed { .. } => is_changed(section),
+        Happening::Altered { .. } => is_altered(section),
+        Happening::Lost { .. } => is_lost(section),
+        Happening::Admitted { place, .. } => is_not_ended(section) && stands_open(view, *place),
+        Happening::Opened { .. } | Happening::Done { .. } => false,
+    }
+}
+
+/// The texts of an item.
+fn cells_of(view: &View<'_>, item: &ReportItem) -> Result<Vec<Cell>, AllocError>
+    requires { IsTellable view.now.names.now item.now }
+    ensures { IfOk result (λ row. row.items ≡ cells_of view.now item.now item.now.happening) }
 {
     match &item.happening {
         Happening::Held {
             place,
             judged,
             until,
-        } if is_held(section, judged) => held_row(view, item, *place, judged, *until),
+        } => held_row(view, item, *place, judged, *until),
         Happening::Denied {
             place,
             clause,
             blame,
-        } if section == Section::Refused => denied_row(view, item, *place, *clause, blame),
+        } => denied_row(view, item, *place, *clause, blame),
         Happening::Changed {
             place,
             rule,
             before,
-        } if section == Section::Changed => changed_row(view, item, *place, rule, before),
+        } => changed_row(view, item, *place, rule, before),
         Happening::Altered {
             place,
             access,
             before,
             after,
-        } if section == Section::Altered => {
-            altered_row(view, item, *place, access, (*before, *after))
-        }
-        Happening::Lost { place, ran } if section == Section::Lost => {
-            lost_row(view, item, *place, *ran)
-        }
-        Happening::Admitted { place, .. }
-            if section == Section::NotEnded && stands_open(view, *place) =>
-        {
-            entry_row(view, item, *place)
-        }
-        _ => Ok(Vec::new(view.alloc)),
+        } => altered_row(view, item, *place, access, (*before, *after)),
+        Happening::Lost { place, ran } => lost_row(view, item, *place, *ran),
+        Happening::Admitted { place, .. } => entry_row(view, item, *place),
+        Happening::Opened { .. } | Happening::Done { .. } => no_row(view),
     }
 }
 
 /// The row of an item in a section: its texts, one under each head; none where the section does not tell it, or the filter
 /// leaves it out. An error comes only where a growth is refused.
-pub fn row_of(
-    view: &View<'_>,
-    section: Section,
-    item: &ReportItem,
-) -> Result<Vec<Cell>, AllocError>
+pub fn row_of(view: &View<'_>, section: Section, item: &ReportItem) -> Result<Vec<Cell>, AllocError>
     requires tellable { IsTellable view.now.names.now item.now }
     ensures { IfOk result (λ row. row.items ≡ row_of view.now section item.now) }
 {
-    if is_wanted(&view.filter, item) {
-        cells_of(view, section, item)
+    if is_wanted(&view.filter, item) && tells(view, section, &item.happening) {
+        cells_of(view, item)
     } else {
-        Ok(Vec::new(view.alloc))
+        no_row(view)
     }
 }

@@ -1,9 +1,8 @@
--- How a report begins, and how it ends. The words are own choices.
+-- How a report begins. The words are own choices.
 use Rattle.std.specs.Prelude.{◌==◌, ◌-◌, ℕ, List, [], ◌∷◌, Option, Some, None, codes, decimal, length, slice_get, if◌then◌else◌}
 use Rattle.bl_explain_text.specs.Reasons.{behind, level_name}
 use Rattle.bl_report.specs.declared.report.ReportEnd.{ReportEnd}
 use Rattle.bl_report.specs.declared.report.ReportEnd.TheVariants.{Closed, Open, Wrong}
-use Rattle.bl_report_json.specs.Escapes.{quoted}
 use Rattle.bl_report_text.specs.Counting.{wanted_count}
 use Rattle.bl_report_text.specs.declared.told.Told.{Told}
 
@@ -64,52 +63,3 @@ head_text told =
     ∷ decimal (length told.items.now)
     ∷ codes "\n"
     ∷ [])
-
--- the verdict and the checksums stand first
-abbrev pub json_file_pieces : Told → List ℕ → List (List ℕ)
-json_file_pieces told verdict =
-    codes "{\"kind\":\"report\",\"verdict\":"
-    ∷ quoted verdict
-    ∷ codes ",\"trail_sha256\":"
-    ∷ quoted told.trail_sum.now
-    ∷ codes ",\"setup_sha256\":"
-    ∷ quoted told.setup_sum.now
-    ∷ codes ",\"trail\":"
-    ∷ quoted told.trail_name.now
-    ∷ codes ",\"setup\":"
-    ∷ quoted told.setup_name.now
-    ∷ []
-
-abbrev pub json_kept_between : Option (List ℕ) → Option (List ℕ) → List (List ℕ)
-json_kept_between (Some first) (Some last) =
-    codes ",\"first\":" ∷ quoted first ∷ codes ",\"last\":" ∷ quoted last ∷ []
-json_kept_between (Some first) None = []
-json_kept_between None last = []
-
-abbrev pub json_kept_pieces : List (List ℕ) → List (List ℕ)
-json_kept_pieces times = json_kept_between (slice_get times 0) (slice_get times (length times - 1))
-
--- the head line of JSON
-abbrev pub json_head : Told → List ℕ
-json_head told =
-    behind
-    (behind
-    (behind
-    (behind [] (json_file_pieces told (verdict_text told.events told.end)))
-    (codes ",\"events\":"
-    ∷ decimal told.events
-    ∷ []
-    ∷ codes ",\"version\":2,\"limit\":"
-    ∷ decimal told.limit
-    ∷ []
-    ∷ codes ",\"label\":"
-    ∷ quoted (level_name told.view.names.now told.label)
-    ∷ []))
-    (json_kept_pieces told.view.times.now))
-    (codes "}\n" ∷ [])
-
--- the last line of JSON: how many items were told, so that a cut is seen
-abbrev pub json_end : Told → List ℕ
-json_end told =
-    behind []
-    (codes "{\"kind\":\"end\",\"records\":" ∷ decimal (wanted_count told.view.filter told.items.now) ∷ codes "}\n" ∷ [])

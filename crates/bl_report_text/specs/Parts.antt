@@ -1,5 +1,5 @@
 -- The parts of a report, and the text of each. Which parts there are, and in which order, are own choices.
-use Rattle.std.specs.Prelude.{◌==◌, ℕ, Bool, true, false, All, List, [], ◌∷◌, ◌++◌, codes, decimal, flat_map, if◌then◌else◌}
+use Rattle.std.specs.Prelude.{◌==◌, ℕ, true, false, All, List, [], ◌∷◌, ◌++◌, codes, decimal, flat_map, if◌then◌else◌}
 use Rattle.bl_columns.specs.Columns.{row_line}
 use Rattle.bl_columns.specs.declared.column.Column.{Column}
 use Rattle.bl_explain_text.specs.Reasons.{behind}
@@ -12,13 +12,12 @@ use Rattle.bl_report_rows.specs.declared.section.Section.{Section}
 use Rattle.bl_report_rows.specs.declared.section.Section.TheVariants as section
 use Rattle.bl_report_rows.specs.declared.view.View.{View}
 use Rattle.bl_report_text.specs.Counting.{count_of, counted_word}
-use Rattle.bl_report_text.specs.Forms.{columns_of, lines_of, put_row}
-use Rattle.bl_report_text.specs.Heads.{head_text, json_end, json_head}
+use Rattle.bl_report_text.specs.Forms.{columns_of, lines_of}
+use Rattle.bl_report_text.specs.Heads.{head_text}
 use Rattle.bl_report_text.specs.declared.counted.Counted.{Counted}
 use Rattle.bl_report_text.specs.declared.counted.Counted.TheVariants as counted
-use Rattle.bl_report_text.specs.declared.form.Form.TheVariants as form
 use Rattle.bl_report_text.specs.declared.part.Part.{Part}
-use Rattle.bl_report_text.specs.declared.part.Part.TheVariants.{Head, Short, Count, Rows, Foot, JsonHead, JsonLines, JsonEnd}
+use Rattle.bl_report_text.specs.declared.part.Part.TheVariants.{Head, Short, Count, Rows, Foot}
 use Rattle.bl_report_text.specs.declared.told.Told.{Told}
 
 -- what a report is told from: all of it has names
@@ -46,9 +45,6 @@ small_text told Short = codes "\nin short\n"
 small_text told (Count counted) = count_line told counted
 small_text told (Rows section) = []
 small_text told Foot = foot_text
-small_text told JsonHead = json_head told
-small_text told JsonLines = []
-small_text told JsonEnd = json_end told
 
 -- what stands above the rows of a section
 abbrev pub section_top : View → Section → List Column → List ℕ
@@ -59,17 +55,14 @@ section_top view section columns =
 abbrev pub section_text : Told → Section → List ℕ
 section_text told section =
     let columns = columns_of told.view section told.items.now in
-    section_top told.view section columns ++ flat_map (put_row told.view section columns) told.items.now
+    section_top told.view section columns ++ lines_of told.view section columns told.items.now
 
 abbrev pub part_text : Told → Part → List ℕ
 part_text told (Rows section) = section_text told section
-part_text told JsonLines = lines_of told.view form.Json told.items.now
 part_text told Head = small_text told Head
 part_text told Short = small_text told Short
 part_text told (Count counted) = small_text told (Count counted)
 part_text told Foot = small_text told Foot
-part_text told JsonHead = small_text told JsonHead
-part_text told JsonEnd = small_text told JsonEnd
 
 -- the parts of the text
 abbrev pub text_parts : List Part
@@ -112,11 +105,6 @@ text_parts =
     ∷ Foot
     ∷ []
 
--- the parts of a report
-abbrev pub parts_of : Bool → List Part
-parts_of true = JsonHead ∷ JsonLines ∷ JsonEnd ∷ []
-parts_of false = text_parts
-
 -- the whole: each part behind the one before it
-abbrev pub report_text : Told → Bool → List ℕ
-report_text told is_json = flat_map (part_text told) (parts_of is_json)
+abbrev pub report_text : Told → List ℕ
+report_text told = flat_map (part_text told) text_parts

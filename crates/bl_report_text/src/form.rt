@@ -1,54 +1,29 @@
-//! The line of an item, in each form.
+//! The columns of a section, and the line of an item.
 ghost use Rattle.std.specs.Prelude.{◌≡◌, All, IfOk};
-ghost use Rattle.bl_report_text.specs.Forms.{columns_of, line_of, put_row, widened};
+ghost use Rattle.bl_report_text.specs.Forms.{columns_of, line_of, widened};
 ghost use Rattle.bl_report_rows.specs.Tellable.{IsTellable};
 
 use bl_columns::column::{Column, columns_under, columns_with};
 use bl_columns::row::row_line;
 use bl_report::item::ReportItem;
-use bl_report_json::line::json_line;
 use bl_report_rows::section::{Section, heads_of, row_of};
 use bl_report_rows::view::View;
 use std::alloc::AllocError;
 
-/// In which form items are told.
-#[derive(Clone, Copy)]
-pub(crate) enum Form<'a> {
-    /// As rows of a section, in these columns.
-    Rows(Section, &'a [Column]),
-    /// As lines of JSON.
-    Json,
-}
-
 /// The line of an item in a section; nothing where it has none.
-fn put_row(
+pub(crate) fn line_of(
     view: &View<'_>,
     section: Section,
     columns: &[Column],
     item: &ReportItem,
 ) -> Result<Vec<u8>, AllocError>
     requires tellable { IsTellable view.now.names.now item.now }
-    ensures { IfOk result (λ line. line.items ≡ put_row view.now section columns.now item.now) }
+    ensures { IfOk result (λ line. line.items ≡ line_of view.now section columns.now item.now) }
 {
     let row = row_of(view, section, item)?;
     match row.as_slice() {
         [] => Ok(Vec::new(view.alloc)),
         [_, ..] => row_line(view.alloc, columns, &row),
-    }
-}
-
-/// The line of an item.
-pub(crate) fn line_of(
-    view: &View<'_>,
-    form: &Form<'_>,
-    item: &ReportItem,
-) -> Result<Vec<u8>, AllocError>
-    requires tellable { IsTellable view.now.names.now item.now }
-    ensures { IfOk result (λ line. line.items ≡ line_of view.now form.now item.now) }
-{
-    match *form {
-        Form::Rows(section, columns) => put_row(view, section, columns, item),
-        Form::Json => json_line(view, item),
     }
 }
 

@@ -1,13 +1,12 @@
-//! How a report begins, and how it ends.
+//! How a report begins.
 ghost use Rattle.std.specs.Prelude.{◌≡◌, ◌∷◌, [], IfOk, OnOk, decimal};
 ghost use Rattle.bl_level.specs.Scheme.{HoldsLevel};
 ghost use Rattle.bl_explain_text.specs.Reasons.{behind, level_name};
-ghost use Rattle.bl_report_text.specs.Heads.{file_pieces, head_text, json_end, json_file_pieces, json_head, json_kept_pieces, kept_pieces, torn_pieces, verdict_text};
+ghost use Rattle.bl_report_text.specs.Heads.{file_pieces, head_text, kept_pieces, torn_pieces, verdict_text};
 
 use crate::counted::wanted_count;
 use crate::told::Told;
 use bl_report::report::ReportEnd;
-use bl_report_json::escape::put_quoted;
 use bl_report_rows::cells::put_number;
 use bl_columns::cell::Cell;
 use std::alloc::{AllocError, Global};
@@ -102,63 +101,5 @@ pub(crate) fn head_text(told: &Told<'_>) -> Result<Vec<u8>, AllocError>
     put_kept(&mut text, told.view.times)?;
     put_counted(&mut text, b"  items    ", wanted as u64, b" of ")?;
     put_counted(&mut text, b"", told.items.len() as u64, b"\n")?;
-    Ok(text)
-}
-
-/// Puts the verdict, and what the files are, as JSON.
-fn put_json_files(text: &mut Vec<u8>, told: &Told<'_>, verdict: &[u8]) -> Result<(), AllocError>
-    ensures { OnOk result (text.new.items ≡ behind text.old.items (json_file_pieces told.now verdict.now)) }
-{
-    text.extend_from_slice(b"{\"kind\":\"report\",\"verdict\":")?;
-    put_quoted(text, verdict)?;
-    text.extend_from_slice(b",\"trail_sha256\":")?;
-    put_quoted(text, told.trail_sum.as_bytes())?;
-    text.extend_from_slice(b",\"setup_sha256\":")?;
-    put_quoted(text, told.setup_sum.as_bytes())?;
-    text.extend_from_slice(b",\"trail\":")?;
-    put_quoted(text, told.trail_name.as_bytes())?;
-    text.extend_from_slice(b",\"setup\":")?;
-    put_quoted(text, told.setup_name.as_bytes())
-}
-
-/// Puts from when to when the events were kept, as JSON, where there is a clock.
-fn put_json_kept(text: &mut Vec<u8>, times: &[Cell]) -> Result<(), AllocError>
-    ensures { OnOk result (text.new.items ≡ behind text.old.items (json_kept_pieces times.now)) }
-{
-    let (Some(first), Some(last)) = (times.first(), times.last()) else {
-        return Ok(());
-    };
-    text.extend_from_slice(b",\"first\":")?;
-    put_quoted(text, first.bytes())?;
-    text.extend_from_slice(b",\"last\":")?;
-    put_quoted(text, last.bytes())
-}
-
-/// The head line of JSON.
-pub(crate) fn json_head(told: &Told<'_>) -> Result<Vec<u8>, AllocError>
-    requires { HoldsLevel told.now.view.names.now.scheme told.now.label }
-    ensures { IfOk result (λ text. text.items ≡ json_head told.now) }
-{
-    let alloc = told.view.alloc;
-    let verdict = verdict_text(alloc, told.events, told.end)?;
-    let label = told.view.names.scheme().write_level(&told.label)?;
-    let mut text = Vec::new(alloc);
-    put_json_files(&mut text, told, &verdict)?;
-    put_counted(&mut text, b",\"events\":", told.events, b"")?;
-    put_counted(&mut text, b",\"version\":2,\"limit\":", u64::from(told.limit), b"")?;
-    text.extend_from_slice(b",\"label\":")?;
-    put_quoted(&mut text, &label)?;
-    put_json_kept(&mut text, told.view.times)?;
-    text.extend_from_slice(b"}\n")?;
-    Ok(text)
-}
-
-/// The last line of JSON: how many items were told.
-pub(crate) fn json_end(told: &Told<'_>) -> Result<Vec<u8>, AllocError>
-    ensures { IfOk result (λ text. text.items ≡ json_end told.now) }
-{
-    let wanted = wanted_count(&told.view.filter, told.items);
-    let mut text = Vec::new(told.view.alloc);
-    put_counted(&mut text, b"{\"kind\":\"end\",\"records\":", wanted as u64, b"}\n")?;
     Ok(text)
 }

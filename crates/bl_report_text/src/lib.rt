@@ -1,10 +1,10 @@
-//! A report as text and as lines of JSON: parts that are put one after the other.
+//! A report as text: parts that are put one after the other.
 //!
 //!     told     what a report is told from
 //!     counted  what is counted in short
-//!     head     how a report begins, and how it ends
-//!     form     the line of an item, in each form
-//!     lines    the lines of all items
+//!     head     how a report begins
+//!     form     the columns of a section, and the line of an item
+//!     lines    the lines of all items in a section
 //!     part     the parts of a report, and the text of each
 //!     report   the whole
 #![tactic(auto)]

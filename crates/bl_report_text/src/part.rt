@@ -2,12 +2,12 @@
 ghost use Rattle.std.specs.Prelude.{◌≡◌, IfOk, OnErr};
 ghost use Rattle.bl_level.specs.Scheme.{HoldsLevel};
 ghost use Rattle.bl_report_text.specs.Fronts.{IsFrontPut};
-ghost use Rattle.bl_report_text.specs.Parts.{IsTold, count_line, part_text, parts_of, section_text, section_top, small_text};
+ghost use Rattle.bl_report_text.specs.Parts.{IsTold, count_line, part_text, section_text, section_top, small_text, text_parts};
 ghost use Rattle.bl_wire.specs.Watch.{Puts, end_state};
 
 use crate::counted::{Counted, count_of, counted_word};
-use crate::form::{Form, columns_of};
-use crate::head::{head_text, json_end, json_head};
+use crate::form::columns_of;
+use crate::head::head_text;
 use crate::lines::put_lines;
 use crate::told::Told;
 use bl_columns::cell::Cell;
@@ -35,12 +35,6 @@ pub(crate) enum Part {
     Rows(Section),
     /// What a trail does not have.
     Foot,
-    /// The head line of JSON.
-    JsonHead,
-    /// The lines of JSON.
-    JsonLines,
-    /// The last line of JSON.
-    JsonEnd,
 }
 
 /// The parts of the text.
@@ -83,14 +77,11 @@ const TEXT: &[Part] = &[
     Part::Foot,
 ];
 
-/// The parts of the JSON.
-const JSON: &[Part] = &[Part::JsonHead, Part::JsonLines, Part::JsonEnd];
-
 /// The parts of a report.
-pub(crate) fn parts_of(is_json: bool) -> &'static [Part]
-    ensures { result.now ≡ parts_of is_json }
+pub(crate) fn text_parts() -> &'static [Part]
+    ensures { result.now ≡ text_parts }
 {
-    if is_json { JSON } else { TEXT }
+    TEXT
 }
 
 /// The line of a count; nothing where it is 0.
@@ -138,9 +129,7 @@ fn small_text(told: &Told<'_>, part: Part) -> Result<Vec<u8>, AllocError>
         Part::Short => owned(alloc, b"\nin short\n"),
         Part::Count(counted) => count_line(told, counted),
         Part::Foot => owned(alloc, b"\nA trail has no refused lines or greetings, no addresses, and not who stood behind a session.\n"),
-        Part::JsonHead => json_head(told),
-        Part::JsonEnd => json_end(told),
-        Part::Rows(_) | Part::JsonLines => Ok(Vec::new(alloc)),
+        Part::Rows(_) => Ok(Vec::new(alloc)),
     }
 }
 
@@ -177,12 +166,7 @@ fn put_section<W: Write>(
     let columns = columns_of(&told.view, section, told.items)?;
     let top = section_top(&told.view, section, &columns)?;
     put(writer, &top);
-    put_lines(
-        &told.view,
-        &Form::Rows(section, &columns),
-        told.items,
-        writer,
-    )
+    put_lines(&told.view, section, &columns, told.items, writer)
 }
 
 /// Puts the text of a part that has no items of its own.
@@ -216,12 +200,6 @@ pub(crate) fn put_part<W: Write>(
 {
     match part {
         Part::Rows(section) => put_section(told, section, writer),
-        Part::JsonLines => put_lines(&told.view, &Form::Json, told.items, writer),
-        Part::Head
-        | Part::Short
-        | Part::Count(_)
-        | Part::Foot
-        | Part::JsonHead
-        | Part::JsonEnd => put_small(told, part, writer),
+        Part::Head | Part::Short | Part::Count(_) | Part::Foot => put_small(told, part, writer),
     }
 }

@@ -6,5 +6,5 @@ use Rattle.bl_report_text.proofs.lines.put_lines.Given as goal
 -- the lines of the items so far were put
 abbrev pub invariant-loop-item : goal.invariant-loop-item
 invariant-loop-item g l =
-    Puts (flat_map (line_of l.view l.form) (take l.item-index l.items)) (end_state g.W.Write.contents l.fn.writer)
+    Puts (flat_map (line_of l.view l.section l.columns) (take l.item-index l.items)) (end_state g.W.Write.contents l.fn.writer)
     (end_state g.W.Write.contents l.writer)
