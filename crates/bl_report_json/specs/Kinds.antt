@@ -18,7 +18,7 @@ use Rattle.bl_report.specs.declared.item.Former.TheVariants as former
 use Rattle.bl_report.specs.declared.item.JudgedAccess.{JudgedAccess}
 use Rattle.bl_report_json.specs.Escapes.{quoted}
 use Rattle.bl_report_json.specs.Fields.{count_or_null, truth}
-use Rattle.bl_report_rows.specs.Filters.{blamed_document, falls}
+use Rattle.bl_report_rows.specs.Filters.{blamed_document, falls_from}
 use Rattle.bl_report_rows.specs.Words.{asked_word, mode_word, rule_word, why_words}
 
 -- the levels that an access is judged by
@@ -100,9 +100,12 @@ mode_of (Delete o) = None
 
 -- a rule set a level that does not dominate the one before it
 abbrev pub is_down : Rule → Former → Bool
-is_down (Current level) (former.Level earlier) = falls level earlier
-is_down (Classify o level) (former.Level earlier) = falls level earlier
-is_down rule before = false
+is_down (Give t o m) before = false
+is_down (Rescind t o m) before = false
+is_down (Current level) before = falls_from level before
+is_down (Classify o level) before = falls_from level before
+is_down (Create o) before = false
+is_down (Delete o) before = false
 
 -- what stood before
 abbrev pub former_text : KnownNames → Former → List ℕ

@@ -24,7 +24,11 @@ fn hex_digit(value: u8) -> u8
     requires { value < 16 }
     ensures { result ≡ hex_digit value }
 {
-    if value < 10 { b'0' + value } else { b'W' + value }
+    if value < 10 {
+        b'0' + value
+    } else {
+        b'W' + value
+    }
 }
 
 /// Puts a byte of a text behind another one, with an escape where it needs one.

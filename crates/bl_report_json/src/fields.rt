@@ -144,11 +144,7 @@ fn put_line(text: &mut Vec<u8>, entry: &Entry) -> Result<(), AllocError>
 }
 
 /// Puts which entry it is, and whose line that is or descends from.
-pub(crate) fn put_entry(
-    view: &View<'_>,
-    text: &mut Vec<u8>,
-    place: u32,
-) -> Result<(), AllocError>
+pub(crate) fn put_entry(view: &View<'_>, text: &mut Vec<u8>, place: u32) -> Result<(), AllocError>
     ensures { OnOk result (text.new.items ≡ with_entry view.now place text.old.items) }
 {
     put_count(text, b",\"entry\":", u64::from(place))?;

@@ -8,7 +8,9 @@ ghost use Rattle.bl_report_rows.specs.Filters.{blamed_document};
 ghost use Rattle.bl_report_rows.specs.Words.{asked_word};
 ghost use Rattle.bl_report_rows.specs.Tellable.{HoldsBlame, HoldsChange, HoldsFormer, HoldsJudged, HoldsRule};
 
-use crate::fields::{put_count, put_count_or_null, put_document, put_level, put_subject, put_text, put_word, truth};
+use crate::fields::{
+    put_count, put_count_or_null, put_document, put_level, put_subject, put_text, put_word, truth,
+};
 use bl_explain::grounds::Grounds;
 use bl_explain::tests::Tests;
 use bl_policy::access::{Access, Mode};
@@ -16,7 +18,7 @@ use bl_policy::denial::Clause;
 use bl_policy::id::{DocId, SubjectId};
 use bl_policy::rule::Rule;
 use bl_report::item::{Blame, Former, JudgedAccess};
-use bl_report_rows::filter::{blamed_document, falls};
+use bl_report_rows::filter::{blamed_document, falls_from};
 use bl_report_rows::view::View;
 use bl_report_rows::why::{asked_word, why_words};
 use bl_report_rows::words::{mode_word, rule_word};
@@ -75,7 +77,11 @@ pub(crate) fn put_held(
     put_levels(view, text, &judged.grounds)?;
     put_word(text, b",\"trusted\":", truth(judged.grounds.trusted))?;
     put_word(text, b",\"exempt\":", exempt_words(&judged.grounds, mode))?;
-    put_count(text, b",\"right_since\":", u64::from(judged.right_since.unwrap_or(0)))
+    put_count(
+        text,
+        b",\"right_since\":",
+        u64::from(judged.right_since.unwrap_or(0)),
+    )
 }
 
 /// Puts the name of a subject, or nothing, with its key.
@@ -137,9 +143,8 @@ fn mode_of(rule: &Rule) -> Option<Mode>
 {
     match rule {
         Rule::Give { mode, .. } | Rule::Rescind { mode, .. } => Some(*mode),
-        Rule::Current { .. } | Rule::Classify { .. } | Rule::Create { .. } | Rule::Delete { .. } => {
-            None
-        }
+        Rule::Current { .. } | Rule::Classify { .. } | Rule::Create { .. } | Rule::Delete { .. } =>
+            { None }
     }
 }
 
@@ -147,20 +152,17 @@ fn mode_of(rule: &Rule) -> Option<Mode>
 fn is_down(rule: &Rule, before: &Former) -> bool
     ensures { result ≡ is_down rule.now before.now }
 {
-    match (rule, before) {
-        (Rule::Current { level } | Rule::Classify { level, .. }, Former::Level(earlier)) => {
-            falls(level, earlier)
+    match rule {
+        Rule::Current { level } => falls_from(level, before),
+        Rule::Classify { level, .. } => falls_from(level, before),
+        Rule::Give { .. } | Rule::Rescind { .. } | Rule::Create { .. } | Rule::Delete { .. } => {
+            false
         }
-        _ => false,
     }
 }
 
 /// Puts what stood before a rule, with its key.
-fn put_former(
-    view: &View<'_>,
-    text: &mut Vec<u8>,
-    before: &Former,
-) -> Result<(), AllocError>
+fn put_former(view: &View<'_>, text: &mut Vec<u8>, before: &Former) -> Result<(), AllocError>
     requires { HoldsFormer view.now.names.now.scheme before.now }
     ensures { OnOk result (text.new.items ≡ behind text.old.items
         (codes ",\"old\":" ∷ quoted (former_text view.now.names.now before.now) ∷ [])) }

@@ -12,12 +12,7 @@ use bl_report_rows::view::View;
 use std::alloc::AllocError;
 
 /// How the line of an item begins that is of an entry.
-fn begun(
-    view: &View<'_>,
-    item: &ReportItem,
-    place: u32,
-    kind: &[u8],
-) -> Result<Vec<u8>, AllocError>
+fn begun(view: &View<'_>, item: &ReportItem, place: u32, kind: &[u8]) -> Result<Vec<u8>, AllocError>
     requires known { item.now.subject < length view.now.names.now.subjects }
     ensures { IfOk result (λ text. text.items ≡ begun view.now item.now place kind.now) }
 {

@@ -6,13 +6,18 @@ ghost use Rattle.bl_report_text.specs.Heads.{file_pieces, head_text, kept_pieces
 
 use crate::counted::wanted_count;
 use crate::told::Told;
+use bl_columns::cell::Cell;
 use bl_report::report::ReportEnd;
 use bl_report_rows::cells::put_number;
-use bl_columns::cell::Cell;
 use std::alloc::{AllocError, Global};
 
 /// Puts a number between two texts.
-fn put_counted(text: &mut Vec<u8>, before: &[u8], number: u64, after: &[u8]) -> Result<(), AllocError>
+fn put_counted(
+    text: &mut Vec<u8>,
+    before: &[u8],
+    number: u64,
+    after: &[u8],
+) -> Result<(), AllocError>
     ensures { OnOk result (text.new.items ≡ behind text.old.items (before.now ∷ decimal number ∷ after.now ∷ [])) }
 {
     text.extend_from_slice(before)?;
@@ -31,7 +36,11 @@ fn put_torn(text: &mut Vec<u8>, torn: usize) -> Result<(), AllocError>
 }
 
 /// The verdict on a trail, of which so many events are right.
-pub(crate) fn verdict_text(alloc: Global, events: u64, end: ReportEnd) -> Result<Vec<u8>, AllocError>
+pub(crate) fn verdict_text(
+    alloc: Global,
+    events: u64,
+    end: ReportEnd,
+) -> Result<Vec<u8>, AllocError>
     ensures { IfOk result (λ text. text.items ≡ verdict_text events end) }
 {
     let mut text = Vec::new(alloc);

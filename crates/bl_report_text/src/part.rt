@@ -128,17 +128,16 @@ fn small_text(told: &Told<'_>, part: Part) -> Result<Vec<u8>, AllocError>
         Part::Head => head_text(told),
         Part::Short => owned(alloc, b"\nin short\n"),
         Part::Count(counted) => count_line(told, counted),
-        Part::Foot => owned(alloc, b"\nA trail has no refused lines or greetings, no addresses, and not who stood behind a session.\n"),
+        Part::Foot => owned(
+            alloc,
+            b"\nA trail has no refused lines or greetings, no addresses, and not who stood behind a session.\n",
+        ),
         Part::Rows(_) => Ok(Vec::new(alloc)),
     }
 }
 
 /// What stands above the rows of a section.
-fn section_top(
-    view: &View<'_>,
-    section: Section,
-    columns: &[Column],
-) -> Result<Vec<u8>, AllocError>
+fn section_top(view: &View<'_>, section: Section, columns: &[Column]) -> Result<Vec<u8>, AllocError>
     ensures { IfOk result (λ text. text.items ≡ section_top view.now section columns.now) }
 {
     let heads = heads_of(view, section)?;

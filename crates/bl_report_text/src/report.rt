@@ -13,10 +13,7 @@ use std::io::Write;
 /// Puts a report as text: part by part, so that the whole is never in memory. Where the writer fails a
 /// first part is put, and nothing where it was marked before. An error comes only where a growth is refused; then a first
 /// part was put, too.
-pub fn put_report<W: Write>(
-    told: &Told<'_>,
-    writer: &mut Watched<W>,
-) -> Result<(), AllocError>
+pub fn put_report<W: Write>(told: &Told<'_>, writer: &mut Watched<W>) -> Result<(), AllocError>
     requires { IsTold told.now }
     ensures puts { IfOk result (λ _. Puts (report_text told.now)
         (end_state W.contents writer.old) (end_state W.contents writer.new)) }

@@ -1,6 +1,6 @@
 //! The level of a report: the join of all levels that a document had in the run.
 ghost use Rattle.std.specs.Prelude.{◌≡◌};
-ghost use Rattle.bl_reporting.specs.Labelling.{first_label, label_of, with_change};
+ghost use Rattle.bl_reporting.specs.Labelling.{first_label, label_of, with_change, with_rule};
 
 use bl_level::level::Level;
 use bl_policy::id::DocId;
@@ -20,16 +20,33 @@ fn first_label(policy: &Policy) -> Level
     label
 }
 
+/// The label with the level that a rule gave a document, where it gave one.
+fn with_rule(label: &Level, rule: &Rule) -> Level
+    ensures { result ≡ with_rule label.now rule.now }
+{
+    match rule {
+        Rule::Classify { level, .. } => label.join(level),
+        Rule::Give { .. }
+        | Rule::Rescind { .. }
+        | Rule::Current { .. }
+        | Rule::Create { .. }
+        | Rule::Delete { .. } => *label,
+    }
+}
+
 /// The label with the level that an item gave a document, where it gave one.
 fn with_change(label: &Level, item: &ReportItem) -> Level
     ensures { result ≡ with_change label.now item.now }
 {
     match &item.happening {
-        Happening::Changed {
-            rule: Rule::Classify { level, .. },
-            ..
-        } => label.join(level),
-        _ => *label,
+        Happening::Changed { rule, .. } => with_rule(label, rule),
+        Happening::Opened { .. }
+        | Happening::Admitted { .. }
+        | Happening::Held { .. }
+        | Happening::Denied { .. }
+        | Happening::Altered { .. }
+        | Happening::Done { .. }
+        | Happening::Lost { .. } => *label,
     }
 }
 
