@@ -104,7 +104,8 @@ pub fn what_is_admitted_is_the_order()
         admissions (report_items setup limit events) ≡ entries_from 0 (state_after (start setup limit) events).order }
 {}
 
-/// The items rise by event, so none comes twice: those of an event stand together, behind those of the events before it.
+/// The items rise by event: those of an event stand together, behind those of the events before it. Each is of an event of
+/// the run.
 pub fn items_rise_by_event()
     ensures { (setup : Setup) (limit : ℕ) (events : List Event) →
         RiseBetween 1 (length events) (report_items setup limit events) }
